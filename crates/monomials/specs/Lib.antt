@@ -1,0 +1,4 @@
+pub mod Monomials
+pub mod Orders
+pub mod Blocks
+pub mod Polynomials

@@ -2,3 +2,4 @@ pub mod Monomials
 pub mod Orders
 pub mod Blocks
 pub mod Polynomials
+pub mod Padded

@@ -82,8 +82,7 @@ pub divides_decides : (xs ys : List ℕ) → length xs ≡ length ys → Decides
 divides_decides [] ys e = (λ h k. omega arith, λ h. refl)
 divides_decides (x ∷ xs) [] e = absurd (omega arith)
 divides_decides (x ∷ xs) (y ∷ ys) e =
-    let ih : Decides (divides xs ys) ((k : ℕ) → get_or xs k 0 ≤ get_or ys k 0) = divides_decides xs ys (omega arith) in
-    (
+    let ih : Decides (divides xs ys) ((k : ℕ) → get_or xs k 0 ≤ get_or ys k 0) = divides_decides xs ys (omega arith) in (
       λ h. at_each (leb-true x y (and_parts _ _ h).0) (ih.0 (and_parts (nat_le x y) _ h).1),
       λ h. and_from _ _ (le-leb x y (h 0)) (ih.1 (λ k. h (suc k))),
     )
@@ -193,6 +192,7 @@ equal_places a b m n pa pb ea eb =
   where
     there : (a.exps ≡ b.exps) × (a.len ≡ b.len) → m ≡ n
     there h = sym ea ∙ (ap (λ k. take k a.exps) h.1 ∙ (ap (λ x. take b.len x) h.0 ∙ eb))
+
     back : m ≡ n → (a.exps ≡ b.exps) × (a.len ≡ b.len)
     back h =
         let e : a ≡ b = sym (padded-exponents a pa) ∙ (ap padded (ea ∙ (h ∙ sym eb)) ∙ padded-exponents b pb) in

@@ -3,3 +3,5 @@ pub mod Orders
 pub mod Blocks
 pub mod Polynomials
 pub mod Padded
+pub mod Separating
+pub mod Rows

@@ -1,10 +1,11 @@
 //! Monomials as exponents.
 
-ghost use Rattle.std.specs.Prelude.{◌≡◌, ◌+◌, ◌-◌, ◌≤◌, ◌↔◌, IsTrue, nat_eq, length, sum, slice_index};
+ghost use Rattle.std.specs.Prelude.{◌≡◌, ◌+◌, ◌-◌, ◌≤◌, ◌<◌, ◌↔◌, IsTrue, nat_eq, length, sum, take, slice_index};
 ghost use Rattle.std.specs.Cmp.Lexicographic.{pointwise};
 ghost use Rattle.std.specs.Cmp.Rules.{comparing};
 ghost use Rattle.std.proofs.Common.{rules};
 ghost use Rattle.monomials.specs.Monomials.{degree, plus, minus, lcm, divides, one, variable};
+ghost use Rattle.monomials.specs.Rows.{weighted};
 
 use std::marker::Model;
 
@@ -67,10 +68,7 @@ impl Expo {
     {
         let mut exps = [0; 16];
         exps[v as usize - 1] = 1;
-        Expo {
-            exps,
-            len: n as u8,
-        }
+        Expo { exps, len: n as u8 }
     }
 
     /// The monomial with these exponents.
@@ -179,5 +177,24 @@ impl Expo {
             divides &= self.exps[i] <= other.exps[i];
         }
         divides
+    }
+
+    // The exponent of the variable behind the first `place`.
+    pub(crate) fn at(&self, place: u8) -> u16
+        requires { place < length self.now }
+        ensures { result ≡ slice_index self.now place }
+    {
+        self.exps[place as usize]
+    }
+
+    // The sum of weight times exponent.
+    pub(crate) fn weighted(&self, weights: &[u16; 16]) -> u32
+        ensures { result ≡ weighted (take (length self.now) weights.now) self.now }
+    {
+        let mut total = 0;
+        for i in 0..16 {
+            total += u32::from(weights[i]) * u32::from(self.exps[i]);
+        }
+        total
     }
 }

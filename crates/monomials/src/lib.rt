@@ -6,3 +6,4 @@ pub use order::{Block, Order, OrderFault};
 
 mod expo;
 mod order;
+mod row;

@@ -1,4 +1,4 @@
-use Rattle.std.proofs.Common.{arith, ◌≡◌, ◌∙◌, sym, ap, sum, take}
+use Rattle.std.proofs.Common.{arith, ◌∙◌, sym, ap, sum}
 use Rattle.std.proofs.lemmas.List.{take_all}
 use Rattle.monomials.proofs.Exponents.{sum-exponents}
 use Rattle.monomials.proofs.expo.Expo.degree.Goals as goal

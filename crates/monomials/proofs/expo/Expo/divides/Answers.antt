@@ -1,6 +1,5 @@
 use Rattle.std.proofs.Common.{◌∙◌, ◌≡◌, List, ℕ, take, sym, ap, nat_le, get_or, arith, ◌&&◌}
 use Rattle.std.proofs.lemmas.List.{take_all}
-use Rattle.monomials.specs.Monomials.{divides}
 use Rattle.monomials.proofs.Exponents.{divides-take, divides-places, same_places}
 use Rattle.monomials.proofs.expo.Expo.divides.Goals as goal
 

@@ -1,4 +1,4 @@
-use Rattle.std.proofs.Common.{ℕ, ◌≤◌, ◌-◌, arith, refl, sym, ap, sum}
+use Rattle.std.proofs.Common.{ℕ, ◌≤◌, ◌-◌, arith, refl, sym}
 use Rattle.monomials.proofs.Exponents.{padded_by, exponents_are, place-le, sum-zip_with-le_first}
 use Rattle.monomials.proofs.expo.Expo.minus.Goals as goal
 
@@ -7,7 +7,7 @@ overflow_sub-exps c =
     omega (
       arith,
       place-le c.other.inside c.self.inside _ _ c.other.invariant c.self.invariant c.other.view_is c.self.view_is
-      (sym c.requires.same_length) c.requires.divisible c.loop-i.i,
+          (sym c.requires.same_length) c.requires.divisible c.loop-i.i,
       c.loop-i.invariant.rest c.loop-i.i (omega arith),
     )
 

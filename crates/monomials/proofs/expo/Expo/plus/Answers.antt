@@ -1,4 +1,4 @@
-use Rattle.std.proofs.Common.{ℕ, ◌≤◌, ◌+◌, max, arith, refl, ap, sum}
+use Rattle.std.proofs.Common.{ℕ, ◌≤◌, ◌+◌, arith, refl, ap, sum}
 use Rattle.monomials.proofs.Exponents.{padded_by, exponents_are, sum-zip_with-le, sum-exponents}
 use Rattle.monomials.proofs.expo.Expo.plus.Goals as goal
 

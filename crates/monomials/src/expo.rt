@@ -198,3 +198,24 @@ impl Expo {
         total
     }
 }
+
+#[cfg(test)]
+mod tests {
+    use super::*;
+
+    #[test]
+    fn exponents(rt: HostRuntime) {
+        let x = Expo::var(3, 1);
+        let z = Expo::var(3, 3);
+        let a = Expo::of(&[2, 1, 0]);
+        let b = a.plus(&z);
+        assert_eq!(rt; b, Expo::of(&[2, 1, 1]));
+        assert_eq!(rt; b.len(), 3);
+        assert_eq!(rt; b.degree(), 4);
+        assert_eq!(rt; [b.get(1), b.get(2), b.get(3)], [2, 1, 1]);
+        assert_eq!(rt; a.lcm(&Expo::of(&[1, 3, 0])), Expo::of(&[2, 3, 0]));
+        assert_eq!(rt; b.minus(&x), Expo::of(&[1, 1, 1]));
+        assert!(rt; x.divides(&a) && !z.divides(&a));
+        assert_ne!(rt; Expo::one(2), Expo::one(3));
+    }
+}

@@ -161,3 +161,54 @@ impl Order {
         Ordering::Equal
     }
 }
+
+#[cfg(test)]
+mod tests {
+    use super::*;
+    use std::test::Fail;
+
+    fn monomial(exps: [u8; 3]) -> Expo
+        ensures { length result ≡ 3 }
+    {
+        let [x, y, z] = exps;
+        Expo::of(&[u16::from(x), u16::from(y), u16::from(z)])
+    }
+
+    #[test]
+    fn compares_by_dp(rt: HostRuntime) -> Result<(), Fail> {
+        let order = Order::new(rt.alloc(), &[Block::DegRev { len: 3 }], 3)?;
+        assert_eq!(rt; order.vars(), 3);
+        let falling = [
+            [0, 0, 3],
+            [2, 0, 0],
+            [1, 1, 0],
+            [0, 2, 0],
+            [1, 0, 1],
+            [0, 1, 1],
+            [0, 0, 2],
+            [1, 0, 0],
+            [0, 1, 0],
+            [0, 0, 1],
+            [0, 0, 0],
+        ];
+        for (i, a) in falling.iter().enumerate() {
+            for (j, b) in falling.iter().enumerate() {
+                let ordering = order.compare(&monomial(*a), &monomial(*b));
+                assert_eq!(rt; ordering, j.cmp(&i), "{a:?} and {b:?}");
+            }
+        }
+        Ok(())
+    }
+
+    #[test]
+    fn blocks_cover_the_variables(rt: HostRuntime) {
+        let one = Block::DegRev { len: 1 };
+        let none = Block::DegRev { len: 0 };
+        let two = Block::DegRev { len: 2 };
+        let alloc = rt.alloc();
+        assert!(rt; matches!(Order::new(alloc, &[], 2), Err(OrderFault::Cover)));
+        assert!(rt; matches!(Order::new(alloc, &[one], 2), Err(OrderFault::Cover)));
+        assert!(rt; matches!(Order::new(alloc, &[none, two], 2), Err(OrderFault::Cover)));
+        assert!(rt; Order::new(alloc, &[one, one], 2).is_ok());
+    }
+}

@@ -1,0 +1,5 @@
+pub mod Exponents
+pub mod RowValues
+pub mod Covering
+pub mod AddedRows
+pub mod Separation

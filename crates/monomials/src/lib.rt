@@ -1,0 +1,9 @@
+//! Monomials in up to sixteen variables, their orders, and what contracts say of polynomials.
+#![tactic(auto)]
+
+pub use expo::Expo;
+pub use order::{Block, Order, OrderFault};
+
+mod expo;
+mod order;
+mod row;

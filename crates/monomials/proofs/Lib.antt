@@ -1,3 +1,12 @@
+pub mod Modulo
+pub mod Insertion
+pub mod Weights
+pub mod Canonical
+pub mod Merge
+pub mod Keys
+pub mod OrderLaws
+pub mod Coefficients
+pub mod Operations
 pub mod Exponents
 pub mod RowValues
 pub mod Covering

@@ -5,5 +5,6 @@ pub use expo::Expo;
 pub use order::{Block, Order, OrderFault};
 
 mod expo;
+pub mod laws;
 mod order;
 mod row;

@@ -1,0 +1,5 @@
+pub mod Words
+pub mod Products
+pub mod Texts
+pub mod Scripts
+pub mod Answers

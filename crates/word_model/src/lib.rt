@@ -1,0 +1,2 @@
+//! What the programs compute: definitions over plain lists and numbers, and the laws that hold of them.
+#![tactic(auto)]

@@ -6,4 +6,6 @@ pub mod Termination
 pub mod NormalForms
 pub mod Distribution
 pub mod TwoVariables
+pub mod Induction
+pub mod Degrees
 mod Rows

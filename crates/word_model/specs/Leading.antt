@@ -1,5 +1,5 @@
 -- Leading data of polynomials.
-use Rattle.std.specs.Prelude.{ℕ, List, [], ◌∷◌}
+use Rattle.std.specs.Prelude.{ℕ, [], ◌∷◌}
 use Rattle.monomials.specs.Monomials.{Monomial}
 use Rattle.monomials.specs.Polynomials.{Polynomial}
 

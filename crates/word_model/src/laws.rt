@@ -1,9 +1,9 @@
 //! Laws of words and products, each the contract of a function without a body.
 
-ghost use Rattle.std.specs.Prelude.{◌≡◌, ℕ, ◌<◌, ◌≤◌, List, [], ◌∷◌, length, Some, None};
+ghost use Rattle.std.specs.Prelude.{◌≡◌, ℕ, ◌+◌, ◌<◌, ◌≤◌, List, [], ◌∷◌, length, Some, None};
 ghost use Rattle.monomials.specs.Monomials.{Monomial, degree, variable};
 ghost use Rattle.monomials.specs.Orders.{order_cmp};
-ghost use Rattle.monomials.specs.Polynomials.{Polynomial, IsPolynomial, poly_add};
+ghost use Rattle.monomials.specs.Polynomials.{Polynomial, HasVars, IsPolynomial, poly_add, poly_degree};
 ghost use Rattle.word_model.specs.Words.{Algebra, Word, WordSum, IsWord, monomial_of, sorted_word, Descent, leftmost_descent, rewritten, normal_form, word_value, IsPaired};
 ghost use Rattle.word_model.specs.Products.{product};
 ghost use Rattle.word_model.specs.Scripts.{two_variables};
@@ -44,4 +44,10 @@ pub fn distribute()
     ensures right { (A : Algebra) (f g h : Polynomial) → 0 < A.p →
         product A f (poly_add (order_cmp A.order.rows) A.p g h)
         ≡ poly_add (order_cmp A.order.rows) A.p (product A f g) (product A f h) }
+{}
+
+/// The degree of a product is at most the sum of the degrees, where rewriting leads downwards.
+pub fn degree_bound()
+    ensures { (A : Algebra) (f g : Polynomial) → IsPaired A → HasVars A.order.vars f →
+        HasVars A.order.vars g → poly_degree (product A f g) ≤ poly_degree f + poly_degree g }
 {}

@@ -8,4 +8,6 @@ pub mod Distribution
 pub mod TwoVariables
 pub mod Induction
 pub mod Degrees
+pub mod Rules
+pub mod LeadingMonomials
 mod Rows

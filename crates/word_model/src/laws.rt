@@ -1,10 +1,12 @@
 //! Laws of words and products, each the contract of a function without a body.
 
-ghost use Rattle.std.specs.Prelude.{◌≡◌, ℕ, ◌+◌, ◌<◌, ◌≤◌, List, [], ◌∷◌, length, Some, None};
-ghost use Rattle.monomials.specs.Monomials.{Monomial, degree, variable};
+ghost use Rattle.std.specs.Prelude.{◌≡◌, ◌≢◌, ℕ, ◌+◌, ◌<◌, ◌≤◌, List, [], ◌∷◌, length, Some, None};
+ghost use Rattle.monomials.specs.Monomials.{Monomial, degree, plus, variable};
 ghost use Rattle.monomials.specs.Orders.{order_cmp};
 ghost use Rattle.monomials.specs.Polynomials.{Polynomial, HasVars, IsPolynomial, poly_add, poly_degree};
 ghost use Rattle.word_model.specs.Words.{Algebra, Word, WordSum, IsWord, monomial_of, sorted_word, Descent, leftmost_descent, rewritten, normal_form, word_value, IsPaired};
+ghost use Rattle.word_model.specs.Leading.{leading_monomial};
+ghost use Rattle.word_model.specs.Conditions.{IsField, IsRegular};
 ghost use Rattle.word_model.specs.Products.{product};
 ghost use Rattle.word_model.specs.Scripts.{two_variables};
 
@@ -50,4 +52,15 @@ pub fn distribute()
 pub fn degree_bound()
     ensures { (A : Algebra) (f g : Polynomial) → IsPaired A → HasVars A.order.vars f →
         HasVars A.order.vars g → poly_degree (product A f g) ≤ poly_degree f + poly_degree g }
+{}
+
+/// Products of nonzero polynomials are not zero, and leading monomials multiply: over a field, where
+/// rewriting leads downwards and no number of a relation is zero.
+pub fn leading_terms()
+    ensures nonzero { (A : Algebra) (f g : Polynomial) → IsField A.p → IsPaired A → IsRegular A →
+        IsPolynomial A.p A.order f → IsPolynomial A.p A.order g → f ≢ [] → g ≢ [] →
+        product A f g ≢ [] }
+    ensures leading { (A : Algebra) (f g : Polynomial) → IsField A.p → IsPaired A → IsRegular A →
+        IsPolynomial A.p A.order f → IsPolynomial A.p A.order g → f ≢ [] → g ≢ [] →
+        leading_monomial (product A f g) ≡ plus (leading_monomial f) (leading_monomial g) }
 {}

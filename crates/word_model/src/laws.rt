@@ -1,12 +1,13 @@
 //! Laws of words and products, each the contract of a function without a body.
 
-ghost use Rattle.std.specs.Prelude.{◌≡◌, ◌≢◌, ℕ, ◌+◌, ◌<◌, ◌≤◌, List, [], ◌∷◌, length, Some, None};
+ghost use Rattle.std.specs.Prelude.{◌≡◌, ◌≢◌, ℕ, ◌+◌, ◌<◌, ◌≤◌, ◌⊎◌, List, [], ◌∷◌, length, Option, Some, None};
+ghost use Rattle.prime_field.specs.Modular.{IsPrime};
 ghost use Rattle.monomials.specs.Monomials.{Monomial, degree, plus, variable};
 ghost use Rattle.monomials.specs.Orders.{order_cmp};
 ghost use Rattle.monomials.specs.Polynomials.{Polynomial, HasVars, IsPolynomial, poly_add, poly_degree};
 ghost use Rattle.word_model.specs.Words.{Algebra, Word, WordSum, IsWord, monomial_of, sorted_word, Descent, leftmost_descent, rewritten, normal_form, word_value, IsPaired};
 ghost use Rattle.word_model.specs.Leading.{leading_monomial};
-ghost use Rattle.word_model.specs.Conditions.{IsField, IsRegular};
+ghost use Rattle.word_model.specs.Conditions.{Fault, pair_fault, triple_fault, first_from, relations_fault, NonZero, IsField, IsRegular, IsAlgebraData, IsAccepted};
 ghost use Rattle.word_model.specs.Products.{product};
 ghost use Rattle.word_model.specs.Scripts.{two_variables};
 
@@ -63,4 +64,38 @@ pub fn leading_terms()
     ensures leading { (A : Algebra) (f g : Polynomial) → IsField A.p → IsPaired A → IsRegular A →
         IsPolynomial A.p A.order f → IsPolynomial A.p A.order g → f ≢ [] → g ≢ [] →
         leading_monomial (product A f g) ≡ plus (leading_monomial f) (leading_monomial g) }
+{}
+
+/// Relations without a fault are accepted over a field, as those of each algebra of two variables
+/// with a constant are. The numbers modulo a prime are a field.
+pub fn acceptance()
+    ensures accepted { (A : Algebra) → relations_fault A ≡ None → IsAlgebraData A → IsField A.p →
+        IsAccepted A }
+    ensures field { (p : ℕ) → IsPrime p → IsField p }
+    ensures two_variables { (p c e : ℕ) → IsField p → NonZero p c →
+        (relations_fault (two_variables p c e) ≡ None) × IsAlgebraData (two_variables p c e)
+        × IsAccepted (two_variables p c e) }
+{}
+
+/// The first test that fails gives the fault: all pairs are tested in lexicographic order, and then
+/// all triples.
+pub fn first_fault()
+    ensures passed { (test : ℕ → Option Fault) (k m : ℕ) →
+        ((i : ℕ) → k ≤ i → i < k + m → test i ≡ None) → first_from test k m ≡ None }
+    ensures found { (test : ℕ → Option Fault) (k m i : ℕ) (f : Fault) → k ≤ i → i < k + m →
+        ((j : ℕ) → k ≤ j → j < i → test j ≡ None) → test i ≡ Some f → first_from test k m ≡ Some f }
+    ensures none { (A : Algebra) →
+        ((i j : ℕ) → 1 ≤ i → i < j → j ≤ A.order.vars → pair_fault A i j ≡ None) →
+        ((i j k : ℕ) → 1 ≤ i → i < j → j < k → k ≤ A.order.vars → triple_fault A i j k ≡ None) →
+        relations_fault A ≡ None }
+    ensures pair { (A : Algebra) (i j : ℕ) (f : Fault) → 1 ≤ i → i < j → j ≤ A.order.vars →
+        ((a b : ℕ) → 1 ≤ a → a < b → b ≤ A.order.vars → (a < i) ⊎ ((a ≡ i) × (b < j)) →
+        pair_fault A a b ≡ None) →
+        pair_fault A i j ≡ Some f → relations_fault A ≡ Some f }
+    ensures triple { (A : Algebra) (i j k : ℕ) (f : Fault) →
+        ((i j : ℕ) → 1 ≤ i → i < j → j ≤ A.order.vars → pair_fault A i j ≡ None) →
+        1 ≤ i → i < j → j < k → k ≤ A.order.vars →
+        ((a b c : ℕ) → 1 ≤ a → a < b → b < c → c ≤ A.order.vars →
+        (a < i) ⊎ ((a ≡ i) × ((b < j) ⊎ ((b ≡ j) × (c < k)))) → triple_fault A a b c ≡ None) →
+        triple_fault A i j k ≡ Some f → relations_fault A ≡ Some f }
 {}

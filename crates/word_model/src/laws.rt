@@ -67,7 +67,7 @@ pub fn leading_terms()
 {}
 
 /// Relations without a fault are accepted over a field, as those of each algebra of two variables
-/// with a constant are. The numbers modulo a prime are a field.
+/// with a constant and a nonzero number are. The numbers modulo a prime are a field.
 pub fn acceptance()
     ensures accepted { (A : Algebra) → relations_fault A ≡ None → IsAlgebraData A → IsField A.p →
         IsAccepted A }

@@ -27,16 +27,19 @@ pub fn sorted_word_form()
 pub fn rewriting()
     ensures sorted { (A : Algebra) (w : Word) → leftmost_descent w ≡ None →
         normal_form A w ≡ (1, monomial_of A.order.vars w) ∷ [] }
-    ensures rewritten { (A : Algebra) (w : Word) (s : Descent) → IsPaired A → IsWord A.order.vars w →
-        leftmost_descent w ≡ Some s → normal_form A w ≡ word_value A (rewritten A s) }
+    ensures rewritten { (A : Algebra) (w : Word) (s : Descent) → IsPaired A →
+        IsWord A.order.vars w → leftmost_descent w ≡ Some s →
+        normal_form A w ≡ word_value A (rewritten A s) }
     ensures two_variables { (p c e : ℕ) → IsPaired (two_variables p c e) }
 {}
 
 /// Normal forms of words and of sums of words, and products, are polynomials of the algebra.
 pub fn normal_forms_are_polynomials()
     ensures word { (A : Algebra) (w : Word) → 1 < A.p → IsPolynomial A.p A.order (normal_form A w) }
-    ensures sum { (A : Algebra) (f : WordSum) → 1 < A.p → IsPolynomial A.p A.order (word_value A f) }
-    ensures product { (A : Algebra) (f g : Polynomial) → 1 < A.p → IsPolynomial A.p A.order (product A f g) }
+    ensures sum { (A : Algebra) (f : WordSum) → 1 < A.p →
+        IsPolynomial A.p A.order (word_value A f) }
+    ensures product { (A : Algebra) (f g : Polynomial) → 1 < A.p →
+        IsPolynomial A.p A.order (product A f g) }
 {}
 
 /// Products distribute over sums, on both sides.
@@ -55,8 +58,8 @@ pub fn degree_bound()
         HasVars A.order.vars g → poly_degree (product A f g) ≤ poly_degree f + poly_degree g }
 {}
 
-/// Products of nonzero polynomials are not zero, and leading monomials multiply: over a field, where
-/// rewriting leads downwards and no number of a relation is zero.
+/// Products of nonzero polynomials are not zero, and leading monomials multiply: over a field,
+/// where rewriting leads downwards and no number of a relation is zero.
 pub fn leading_terms()
     ensures nonzero { (A : Algebra) (f g : Polynomial) → IsField A.p → IsPaired A → IsRegular A →
         IsPolynomial A.p A.order f → IsPolynomial A.p A.order g → f ≢ [] → g ≢ [] →

@@ -1,0 +1,7 @@
+pub mod Words
+pub mod Products
+pub mod Texts
+pub mod Scripts
+pub mod Answers
+pub mod Leading
+pub mod Conditions

@@ -1,0 +1,27 @@
+-- Products in a G-algebra.
+use Rattle.std.specs.Prelude.{ℕ, [], ◌∷◌, ◌++◌}
+use Rattle.monomials.specs.Monomials.{variable, one}
+use Rattle.monomials.specs.Orders.{order_cmp}
+use Rattle.monomials.specs.Polynomials.{Polynomial, sum_over}
+use Rattle.word_model.specs.Words.{Algebra, Word, normal_form, sorted_word}
+
+-- The product: over the terms of f and of g, the product of their two numbers times
+-- the normal form of their two sorted words put one after the other.
+unfoldable pub product : Algebra → Polynomial → Polynomial → Polynomial
+product A f g =
+    sum_over (order_cmp A.order.rows) A.p
+    (λ a. sum_over (order_cmp A.order.rows) A.p (λ b. normal_form A (sorted_word a ++ sorted_word b)) g) f
+
+-- the variable x_v as a polynomial
+abbrev pub variable_polynomial : Algebra → ℕ → Polynomial
+variable_polynomial A v = (1, variable A.order.vars v) ∷ []
+
+-- f times the letters of a word, one after another
+abbrev pub times_letters : Algebra → Polynomial → Word → Polynomial
+times_letters A f [] = f
+times_letters A f (v ∷ w) = times_letters A (product A f (variable_polynomial A v)) w
+
+-- the product of the letters of a word, multiplied from left to right
+abbrev pub letters_product : Algebra → Word → Polynomial
+letters_product A [] = (1, one A.order.vars) ∷ []
+letters_product A (v ∷ w) = times_letters A (variable_polynomial A v) w

@@ -1,0 +1,134 @@
+-- The scripts that the program reads so far: three lines that make an algebra in x and d with one relation,
+-- and print the product of some of its letters.
+use Rattle.std.specs.Prelude.{◌≡◌, ◌≢◌, ℕ, zero, suc, ◌+◌, ◌-◌, ◌*◌, ◌%◌, ◌≤◌, ◌==◌, ◌&&◌, nat_le, not, List, [], ◌∷◌, ◌++◌, map, length, take, drop, Bool, true, Option, Some, None, codes, if◌then◌else◌, fold, option_and_then}
+use Rattle.std.specs.List.{join_with_byte, list_all, prefix_len}
+use Rattle.prime_field.specs.Modular.{in_table}
+use Rattle.monomials.specs.Polynomials.{cons_nonzero}
+use Rattle.monomials.specs.Blocks.{dp_rows}
+use Rattle.word_model.specs.Words.{Algebra, Word}
+
+-- what is left open in such a script: three numbers and a product, as their bytes
+pub record ShortScript : Type 0 where
+  pub characteristic : List ℕ
+  pub factor : List ℕ
+  pub constant : List ℕ
+  pub letters : List ℕ
+
+-- a line feed
+abbrev pub line_feed : List ℕ
+line_feed = 10 ∷ []
+
+-- the script's bytes
+abbrev pub script_bytes : ShortScript → List ℕ
+script_bytes s =
+    codes "ring r = " ++ (s.characteristic ++ (codes ",(x,d),dp;" ++ (line_feed
+    ++ (codes "def W = nc_algebra(" ++ (s.factor ++ (codes "," ++ (s.constant ++ (codes "); setring W;" ++ (line_feed
+    ++ (join_with_byte 42 (map (λ b. b ∷ []) s.letters) ++ (codes ";" ++ line_feed)))))))))))
+
+abbrev pub is_digit : ℕ → Bool
+is_digit b = nat_le 48 b && nat_le b 57
+
+-- `x` or `d`
+abbrev pub is_letter : ℕ → Bool
+is_letter b = if b == 120 then true else (b == 100)
+
+-- a number of 1 to 9 decimal digits
+pub record IsNumber (digits : List ℕ) : Type 0 where
+  pub some : 1 ≤ length digits
+  pub few : length digits ≤ 9
+  pub all_digits : list_all is_digit digits ≡ true
+
+-- the value of decimal digits
+abbrev pub digits_value : List ℕ → ℕ
+digits_value digits = fold (λ n b. 10 * n + (b - 48)) 0 digits
+
+-- The script is accepted: the characteristic is in the table, the relation's number is not zero modulo it,
+-- and the product has 1 to 64 letters.
+pub record IsShortScript (s : ShortScript) : Type 0 where
+  pub characteristic : IsNumber s.characteristic
+  pub listed : in_table (digits_value s.characteristic) ≡ true
+  pub factor : IsNumber s.factor
+  pub nonzero : digits_value s.factor % digits_value s.characteristic ≢ 0
+  pub constant : IsNumber s.constant
+  pub some : 1 ≤ length s.letters
+  pub few : length s.letters ≤ 64
+  pub letters : list_all is_letter s.letters ≡ true
+
+-- ---- what a script means
+
+-- the algebra of x and d with d x = c x d + e, ordered by dp
+abbrev pub two_variables : ℕ → ℕ → ℕ → Algebra
+two_variables p c e = record {
+  p = p;
+  order = record { vars = 2; rows = dp_rows 2 0 2 };
+  c = (c % p) ∷ [];
+  d = cons_nonzero (e % p) (0 ∷ 0 ∷ []) [] ∷ [];
+}
+
+abbrev pub script_algebra : ShortScript → Algebra
+script_algebra s = two_variables (digits_value s.characteristic) (digits_value s.factor) (digits_value s.constant)
+
+-- the number of a variable: 1 for x, 2 for d
+abbrev pub letter_number : ℕ → ℕ
+letter_number b = if b == 120 then 1 else 2
+
+abbrev pub script_word : ShortScript → Word
+script_word s = map letter_number s.letters
+
+-- ---- reading
+
+-- the bytes behind a text, where they begin with it
+abbrev pub after_text : List ℕ → List ℕ → Option (List ℕ)
+after_text [] bytes = Some bytes
+after_text (t ∷ text) [] = None
+after_text (t ∷ text) (b ∷ bytes) = if t == b then after_text text bytes else None
+
+-- the digits at the front with the bytes behind them, where there are 1 to 9 digits
+abbrev pub read_number : List ℕ → Option (List ℕ × List ℕ)
+read_number bytes =
+    let n : ℕ = prefix_len is_digit bytes in
+    if nat_le 1 n && nat_le n 9 then Some (take n bytes, drop n bytes) else None
+
+-- one more letter in front of what was read
+abbrev pub with_letter : ℕ → Option (List ℕ × List ℕ) → Option (List ℕ × List ℕ)
+with_letter b None = None
+with_letter b (Some read) = Some (b ∷ read.0, read.1)
+
+-- at most k letters with `*` between them, and the bytes behind them
+abbrev pub read_letters : ℕ → List ℕ → Option (List ℕ × List ℕ)
+read_letters zero bytes = None
+read_letters (suc k) [] = None
+read_letters (suc k) (b ∷ []) = if is_letter b then Some (b ∷ [], []) else None
+read_letters (suc k) (b ∷ (next ∷ bytes)) =
+    if is_letter b then (if next == 42 then with_letter b (read_letters k bytes) else Some (b ∷ [], next ∷ bytes)) else None
+
+-- the script, if the values of its numbers are accepted and no byte is left
+abbrev pub accept_script : ShortScript → List ℕ → Option ShortScript
+accept_script s (b ∷ bytes) = None
+accept_script s [] =
+    if in_table (digits_value s.characteristic)
+    && not (digits_value s.factor % digits_value s.characteristic == 0)
+    then Some s else None
+
+-- what a script of this form leaves open, read from its bytes: None for any other bytes
+unfoldable pub read_script : List ℕ → Option ShortScript
+read_script bytes =
+    option_and_then (λ b0.
+    option_and_then (λ (p, b1).
+    option_and_then (λ b2.
+    option_and_then (λ (c, b3).
+    option_and_then (λ b4.
+    option_and_then (λ (e, b5).
+    option_and_then (λ b6.
+    option_and_then (λ (w, b7).
+    option_and_then (λ b8.
+    accept_script (record { characteristic = p; factor = c; constant = e; letters = w }) b8)
+    (after_text (codes ";" ++ line_feed) b7))
+    (read_letters 64 b6))
+    (after_text (codes "); setring W;" ++ line_feed) b5))
+    (read_number b4))
+    (after_text (codes ",") b3))
+    (read_number b2))
+    (after_text (codes ",(x,d),dp;" ++ (line_feed ++ codes "def W = nc_algebra(")) b1))
+    (read_number b0))
+    (after_text (codes "ring r = ") bytes)

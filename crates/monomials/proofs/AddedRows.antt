@@ -14,6 +14,7 @@ pub record AddsUpTo (n : ℕ) (old new : List Row) (rest all : List (List ℤ)) 
   pub entries : map (row_entries n) new ++ rest ≡ map (row_entries n) old ++ all
   pub within : All (IsWithin n) old → All (IsWithin n) new
 
+-- no row is added yet
 pub adds_none : (n : ℕ) (rows : List Row) (all : List (List ℤ)) → AddsUpTo n rows rows all all
 adds_none n rows all = record { entries = refl; within = λ o. o }
 

@@ -8,18 +8,20 @@ use Rattle.std.proofs.lemmas.Bool.{and_parts, and_from, leb-true, le-leb, cases_
 use Rattle.std.proofs.lemmas.Bool.Decides.{nat_tests, same_from_decides, Decides-like, Decides-and, Decides-eqb}
 use Rattle.std.proofs.lemmas.Slice.Eq.{bytes_eq-Decides}
 use Rattle.std.proofs.lemmas.List.{ext_get_or, get_or-drop, get_or-take, length-take-le, get_or_past, get_or-replicate, length-replicate, take-replicate, length-set, get_or-set_other}
-use Rattle.std.proofs.lemmas.List.Sums.{sum_by-cons, sum_by-take-drop, get_or-le-sum_by, sum_by-set}
+use Rattle.std.proofs.lemmas.List.Sums.{sum_by-cons, sum_by-take-drop, sum_by-set}
 use Rattle.std.proofs.lemmas.List.Folds.{sum_by-replicate}
-use Rattle.monomials.specs.Monomials.{zip_with, divides, variable}
+use Rattle.monomials.specs.Monomials.{Monomial, degree, plus, zip_with, divides, variable}
 use Rattle.monomials.specs.declared.expo.Expo.TheInside.{Inside}
 use Rattle.monomials.specs.Padded.{IsPadded, exponents, padded, padded-exponents, length-exponents, drop-places, zeros}
 
 module _ (f : ℕ → ℕ → ℕ) where
+  -- two lists of one length give as long a list
   pub length-zip_with : (xs ys : List ℕ) → length xs ≡ length ys → length (zip_with f xs ys) ≡ length xs
   length-zip_with [] ys e = refl
   length-zip_with (x ∷ xs) [] e = sym e
   length-zip_with (x ∷ xs) (y ∷ ys) e = ap suc (length-zip_with xs ys (omega arith))
 
+  -- the value of `f` at a place
   pub get_or-zip_with : (xs ys : List ℕ) (k : ℕ) → length xs ≡ length ys → k < length xs →
       get_or (zip_with f xs ys) k 0 ≡ f (get_or xs k 0) (get_or ys k 0)
   get_or-zip_with [] ys k e h = absurd (omega arith)
@@ -27,6 +29,7 @@ module _ (f : ℕ → ℕ → ℕ) where
   get_or-zip_with (x ∷ xs) (y ∷ ys) zero e h = refl
   get_or-zip_with (x ∷ xs) (y ∷ ys) (suc k) e h = get_or-zip_with xs ys k (omega arith) (omega arith)
 
+  -- the front is made of the fronts
   pub take-zip_with : (n : ℕ) (xs ys : List ℕ) → take n (zip_with f xs ys) ≡ zip_with f (take n xs) (take n ys)
   take-zip_with zero xs ys = refl
   take-zip_with (suc n) [] ys = refl
@@ -67,6 +70,20 @@ module _ (f : ℕ → ℕ → ℕ) where
         sum_by-cons (λ x. x) (f x y) (zip_with f xs ys),
       )
 
+-- the degree of a product is the sum of the degrees
+pub degree-plus : (a b : Monomial) → length a ≡ length b → degree (plus a b) ≡ degree a + degree b
+degree-plus [] [] e = refl
+degree-plus [] (y ∷ b) e = absurd (omega arith)
+degree-plus (x ∷ a) [] e = absurd (omega arith)
+degree-plus (x ∷ a) (y ∷ b) e =
+    omega (
+      arith,
+      degree-plus a b (omega arith),
+      sum_by-cons (λ x. x) x a,
+      sum_by-cons (λ x. x) y b,
+      sum_by-cons (λ x. x) (x + y) (plus a b),
+    )
+
 -- one more place
 pub divides-take : (k : ℕ) (xs ys : List ℕ) → length xs ≡ length ys → k < length xs →
     divides (take (k + 1) xs) (take (k + 1) ys) ≡ (divides (take k xs) (take k ys) && nat_le (get_or xs k 0) (get_or ys k 0))
@@ -75,7 +92,8 @@ divides-take k (x ∷ xs) [] e h = absurd (omega arith)
 divides-take zero (x ∷ xs) (y ∷ ys) e h = grind (arith, nat_tests)
 divides-take (suc k) (x ∷ xs) (y ∷ ys) e h =
     let n : suc k + 1 ≡ suc (k + 1) = omega arith in
-    rw n (ap (λ b. nat_le x y && b) (divides-take k xs ys (omega arith) (omega arith)) ∙ sym (and_assoc (nat_le x y) (divides (take k xs) (take k ys)) (nat_le (get_or xs k 0) (get_or ys k 0))))
+    rw n (ap (λ b. nat_le x y && b) (divides-take k xs ys (omega arith) (omega arith))
+    ∙ sym (and_assoc (nat_le x y) (divides (take k xs) (take k ys)) (nat_le (get_or xs k 0) (get_or ys k 0))))
 
 -- the first divides the second where no exponent of it is greater
 pub divides_decides : (xs ys : List ℕ) → length xs ≡ length ys → Decides (divides xs ys) ((k : ℕ) → get_or xs k 0 ≤ get_or ys k 0)
@@ -91,6 +109,7 @@ divides_decides (x ∷ xs) (y ∷ ys) e =
     at_each h t zero = h
     at_each h t (suc k) = t k
 
+-- zeros at every place, also past the end
 pub get_or-zeros : (n k : ℕ) → get_or {A = ℕ} (replicate n 0) k 0 ≡ 0
 get_or-zeros n k =
     elim (cases_lt k n) [
@@ -98,6 +117,7 @@ get_or-zeros n k =
       | inr past ↦ get_or_past (replicate n 0) k 0 (omega (arith, length-replicate {A = ℕ} n 0))
     ]
 
+-- zeros sum to zero
 pub sum-zeros : (n : ℕ) → sum (replicate n 0) ≡ 0
 sum-zeros n = omega (arith, sum_by-replicate (λ x. x) n 0)
 
@@ -114,19 +134,13 @@ get_or-exponents e k h =
       | inr past ↦ get_or_past (exponents e) k 0 (omega (arith, length-exponents e h)) ∙ sym (h.padding k past)
     ]
 
-pub place_small : (e : Inside) (k : ℕ) → IsPadded e → get_or e.exps k 0 ≤ 32767
-place_small e k h =
-    elim (cases_lt k (length e.exps)) [
-      | inl b ↦ omega (arith, get_or-le-sum_by (λ x. x) e.exps k 0 b, h.small)
-      | inr b ↦ omega (arith, get_or_past e.exps k 0 b)
-    ]
-
 -- two monomials of one length, and the places that hold them
 module _ (a b : Inside) (m n : List ℕ) (pa : IsPadded a) (pb : IsPadded b) (ea : exponents a ≡ m) (eb : exponents b ≡ n)
     (same : length m ≡ length n) where
   lens : a.len ≡ b.len
   lens = omega (arith, length-exponents a pa, length-exponents b pb, ap length ea, ap length eb)
 
+  -- both have sixteen places
   pub same_places : length a.exps ≡ length b.exps
   same_places = pa.places ∙ sym pb.places
 
@@ -150,10 +164,12 @@ module _ (a b : Inside) (m n : List ℕ) (pa : IsPadded a) (pb : IsPadded b) (ea
 
   module _ (f : ℕ → ℕ → ℕ) (r : List ℕ) (whole : length r ≡ 16)
       (each : (k : ℕ) → k < 16 → get_or r k 0 ≡ f (get_or a.exps k 0) (get_or b.exps k 0)) where
+    -- places with the values of `f` are the two lists of places, place by place
     pub places_are : r ≡ zip_with f a.exps b.exps
     places_are =
         zip_with_by f a.exps b.exps r same_places (whole ∙ sym pa.places) (λ k l. each k (omega (arith, pa.places)))
 
+    -- their exponents are the two monomials, place by place
     pub exponents_are : take a.len r ≡ zip_with f m n
     exponents_are =
         let first : take a.len r ≡ take a.len (zip_with f a.exps b.exps) = ap (λ x. take a.len x) places_are in
@@ -162,6 +178,7 @@ module _ (a b : Inside) (m n : List ℕ) (pa : IsPadded a) (pb : IsPadded b) (ea
         let eb2 : take a.len b.exps ≡ n = ap (λ x. take x b.exps) lens ∙ eb in
         first ∙ (second ∙ (ap (λ x. zip_with f x (take a.len b.exps)) ea ∙ ap (λ x. zip_with f m x) eb2))
 
+    -- such places are padded, where `f` keeps zeros and the sum small
     pub padded_by : f 0 0 ≡ 0 → sum (zip_with f a.exps b.exps) ≤ 32767 → IsPadded (record { exps = r; len = a.len })
     padded_by z s =
         record {
@@ -198,6 +215,7 @@ equal_places a b m n pa pb ea eb =
 -- places that hold a list, and zeros behind it
 module _ (xs ps : List ℕ) (whole : length ps ≡ 16) (fits : length xs ≤ 16)
     (done : (k : ℕ) → k < length xs → get_or ps k 0 ≡ get_or xs k 0) (rest : (k : ℕ) → length xs ≤ k → get_or ps k 0 ≡ 0) where
+  -- their front is the list
   pub places_of : take (length xs) ps ≡ xs
   places_of =
       ext_get_or 0 (take (length xs) ps) xs (length-take-le (length xs) ps (omega (arith, whole)))
@@ -205,6 +223,7 @@ module _ (xs ps : List ℕ) (whole : length ps ≡ 16) (fits : length xs ≤ 16)
       let b : k < length xs = omega (arith, length-take-le (length xs) ps (omega (arith, whole))) in
       get_or-take (length xs) ps k 0 b ∙ done k b)
 
+  -- such places are padded
   pub padded_of : 1 ≤ length xs → sum xs ≤ 32767 → IsPadded (record { exps = ps; len = length xs })
   padded_of one small =
       let z : drop (length xs) ps ≡ replicate (length (drop (length xs) ps)) 0 =
@@ -227,6 +246,7 @@ take-set_zeros (suc n) (suc k) (suc m) h le =
     let e : suc n - suc (suc k) ≡ n - suc k = omega arith in
     rw e (ap (λ z. 0 ∷ z) (take-set_zeros n k m (omega arith) (omega arith)))
 
+-- the places of a variable are padded
 pub padded_variable : (n v : ℕ) → n ≤ 16 → 1 ≤ v → v ≤ n → IsPadded (record { exps = set (replicate 16 0) (v - 1) 1; len = n })
 padded_variable n v fits first last =
     let here : v - 1 < length {A = ℕ} (replicate 16 0) = omega arith in
@@ -239,6 +259,7 @@ padded_variable n v fits first last =
       small = omega (arith, sum_by-set (λ x. x) (replicate 16 0) (v - 1) 1 0 here);
     }
 
+-- they hold the variable
 pub exponents_of_variable : (n v : ℕ) → n ≤ 16 → 1 ≤ v → v ≤ n → take {A = ℕ} n (set (replicate 16 0) (v - 1) 1) ≡ variable n v
 exponents_of_variable n v fits first last =
     let e : n - suc (v - 1) ≡ n - v = omega arith in

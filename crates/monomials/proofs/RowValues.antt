@@ -16,6 +16,7 @@ use Rattle.monomials.specs.Padded.{IsPadded, exponents, zeros}
 use Rattle.monomials.specs.declared.expo.Expo.TheInside.{Inside}
 use Rattle.monomials.proofs.Exponents.{take-zip_with, length-zip_with, get_or-zip_with, sum-zeros}
 
+-- one more variable
 pub weighted-cons : (w e : ℕ) (ws m : List ℕ) → weighted (w ∷ ws) (e ∷ m) ≡ w * e + weighted ws m
 weighted-cons w e ws m = sum_by-cons (λ x. x) (w * e) (zip_with (λ x y. x * y) ws m)
 
@@ -25,6 +26,7 @@ row_value-map_pos [] m = refl
 row_value-map_pos (w ∷ ws) [] = refl
 row_value-map_pos (w ∷ ws) (e ∷ m) = rw (row_value-map_pos ws m, weighted-cons w e ws m)
 
+-- multiples add up
 pub *ℤ-pos-plus : (x : ℤ) (y z : ℕ) → x *ℤ pos (y + z) ≡ (x *ℤ pos y) +ℤ (x *ℤ pos z)
 *ℤ-pos-plus (pos n) y z = ap pos (omega arith)
 *ℤ-pos-plus (negsuc n) y z =
@@ -33,6 +35,7 @@ pub *ℤ-pos-plus : (x : ℤ) (y z : ℕ) → x *ℤ pos (y + z) ≡ (x *ℤ pos
     ∙ (ap (λ m. neg_ℤ (pos m)) e ∙ (neg_ℤ-+ℤ (pos (suc n * y)) (pos (suc n * z))
     ∙ (ap (λ m. m +ℤ neg_ℤ (pos (suc n * z))) (sym (negsuc-*ℤ-pos n y)) ∙ ap (λ m. (negsuc n *ℤ pos y) +ℤ m) (sym (negsuc-*ℤ-pos n z)))))
 
+-- the value of a row in two parts, each at its own variables
 pub row_value-append : (rs ss : List ℤ) (m : List ℕ) → row_value (rs ++ ss) m ≡ row_value rs m +ℤ row_value ss (drop (length rs) m)
 row_value-append [] ss m = sym (+ℤ_idl (row_value ss m))
 row_value-append (r ∷ rs) [] [] = refl
@@ -73,6 +76,7 @@ sum-take_one (suc k) (x ∷ m) = sum-take_one k m
 pub row_value-unit : (z : ℤ) (n k : ℕ) (m : List ℕ) → row_value (row_of z n k 1) m ≡ z *ℤ pos (get_or m k 0)
 row_value-unit z n k m = row_value-row_of z n k 1 m ∙ ap (λ x. z *ℤ pos x) (sum-take_one k m)
 
+-- whole numbers compare as integers do
 pub int_cmp-pos : (x y : ℕ) → int_cmp (pos x) (pos y) ≡ nat_cmp x y
 int_cmp-pos x y = grind (arith, ints, nat_tests)
 
@@ -95,7 +99,7 @@ pub compare_falling : (n k : ℕ) (a b : List ℕ) →
 compare_falling n k a b =
     rw (row_value-unit (negsuc 0) n k a, row_value-unit (negsuc 0) n k b) (int_cmp-minus (get_or a k 0) (get_or b k 0))
 
--- weights of at most 65535
+-- under weights of at most 65535 a value is at most 65535 times the degree
 pub weighted-le : (ws m : List ℕ) → ((k : ℕ) → get_or ws k 0 ≤ 65535) → weighted ws m ≤ 65535 * sum m
 weighted-le [] m h = omega arith
 weighted-le (w ∷ ws) [] h = omega arith
@@ -128,12 +132,14 @@ module _ (e : Inside) (ws : List ℕ) (i : ℕ) (h : IsPadded e) (n : length ws 
   place_is : get_or (zip_with (λ w m. w * m) ws e.exps) i 0 ≡ get_or ws i 0 * get_or e.exps i 0
   place_is = get_or-zip_with (λ w m. w * m) ws e.exps i (n ∙ sym h.places) (omega (arith, n))
 
+  -- the sum so far
   pub weighted_step : sum (take (i + 1) (zip_with (λ w m. w * m) ws e.exps))
       ≡ sum (take i (zip_with (λ w m. w * m) ws e.exps)) + get_or ws i 0 * get_or e.exps i 0
   weighted_step =
       sum_by_more (λ x. x) (zip_with (λ w m. w * m) ws e.exps) i 0 (omega (arith, all_zip))
       ∙ ap (λ x. sum (take i (zip_with (λ w m. w * m) ws e.exps)) + x) place_is
 
+  -- it fits 32 bits
   pub weighted_fits : ((k : ℕ) → get_or ws k 0 ≤ 65535) →
       sum (take i (zip_with (λ w m. w * m) ws e.exps)) + get_or ws i 0 * get_or e.exps i 0 ≤ 2147385345
   weighted_fits small =

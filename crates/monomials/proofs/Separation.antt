@@ -132,6 +132,7 @@ separates_order n blocks h a b la lb e =
     ext_get_or 0 a b (la ∙ sym lb)
     (λ k l. blocks_equal n a b la lb 0 blocks h.none_empty (omega (arith, h.all)) e k (omega arith) (omega (arith, h.all)))
 
+-- the same as one fact
 pub blocks_separate : (n : ℕ) (blocks : List Block) → Covers n blocks → IsSeparating (order_of n blocks)
 blocks_separate n blocks h = record { same = separates_order n blocks h }
 

@@ -35,12 +35,15 @@ module _ (p : ℕ) (order : RowOrder) (fs gs : List Term) (pos : 0 < p) where
     pub right_is : u ≡ get_or gs j u
 
   module _ (out : List Term) (i j : ℕ) (t u : Term) (r : IsReading i j t u) (m : IsMerging p order fs gs out i j) where
+    -- what is left on the left, the first term taken apart
     pub first_left : IsPolynomial p order (pair_of t ∷ pairs_of (drop (i + 1) fs))
     first_left = subst (IsPolynomial p order) (rest_is fs i t r.left_in r.left_is) m.left
 
+    -- what is left on the right, the first term taken apart
     pub first_right : IsPolynomial p order (pair_of u ∷ pairs_of (drop (j + 1) gs))
     first_right = subst (IsPolynomial p order) (rest_is gs j u r.right_in r.right_is) m.right
 
+    -- the left term is the greater
     pub step_left : order_cmp order.rows t.mono u.mono ≡ Greater → IsMerging p order fs gs (out ++ t ∷ []) (i + 1) j
     step_left e =
         let f : Polynomial = pairs_of (drop (i + 1) fs) in
@@ -59,6 +62,7 @@ module _ (p : ℕ) (order : RowOrder) (fs gs : List Term) (pos : 0 < p) where
           right = m.right;
         }
 
+    -- the right term is the greater
     pub step_right : order_cmp order.rows t.mono u.mono ≡ Less → IsMerging p order fs gs (out ++ u ∷ []) i (j + 1)
     step_right e =
         let f : Polynomial = pairs_of (drop (i + 1) fs) in

@@ -132,6 +132,7 @@ falling_reversed cmp (t ∷ ts) h =
 
 -- ---- the sort
 
+-- the extended order is total
 pub rank_cmp_total : (order : RowOrder) → IsTotalOrder (rank_cmp order)
 rank_cmp_total order = then_total (on_total (λ m. length m) nat_cmp_total) (on_total (own order.vars) (order_cmp_total order.rows))
 
@@ -139,6 +140,7 @@ rank_cmp_total order = then_total (on_total (λ m. length m) nat_cmp_total) (on_
 abbrev pub is_before : RowOrder → Term → Term → Bool
 is_before order t u = is_lt (rank_cmp order t.mono u.mono)
 
+-- the test is one that a sort can go by
 pub is_before_order : (order : RowOrder) → IsStrictWeakOrder (is_before order)
 is_before_order order = ranks_by (rank_cmp_total order) (λ t. t.mono)
 

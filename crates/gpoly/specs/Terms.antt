@@ -12,8 +12,7 @@ pair_of t = (t.coef, t.mono)
 abbrev pub pairs_of : List Term → Polynomial
 pairs_of ts = map pair_of ts
 
--- the terms of a polynomial in any order of monomials: no number is zero, the degrees are at most 4095,
--- and the monomials are pairwise different
+-- what the terms of a polynomial are in any order: not zero, of degree at most 4095, with pairwise different monomials
 pub record IsTermList (f : Polynomial) : Type 0 where
   pub nonzero : Each (λ t. 0 < t.0) f
   pub small : Each (λ t. degree t.1 ≤ 4095) f

@@ -14,16 +14,20 @@ use std::marker::Model;
 
 mod merge;
 mod sums;
+#[cfg(test)]
+mod tests;
 
 /// A number times a monomial.
 #[derive(Clone, Copy, Debug, PartialEq, Eq)]
 pub struct Term {
+    /// A number of the field: below the characteristic.
     pub coef: u32,
+    /// The monomial, in the variables of the order that sorts.
     pub mono: Expo,
 }
 
-/// A polynomial of degree at most 4095, as the list of its terms: none is zero, and no two have
-/// one monomial. The field and the order are the caller's: each call that needs them is passed them.
+/// A polynomial of degree at most 4095, as the list of its terms: none is zero, and no two have one
+/// monomial. The field and the order are the caller's, who passes them to each call that needs them.
 #[derive(Debug, Drop)]
 pub struct GPoly {
     terms: Vec<Term>,
@@ -62,8 +66,10 @@ impl GPoly {
         requires numbers { HasNumbers field (pairs_of terms.now) }
         requires vars { HasVars order.now.vars (pairs_of terms.now) }
         requires small { Each (λ t. degree t.1 ≤ 4095) (pairs_of terms.now) }
-        ensures value { IfOk result (λ r. r ≡ from_terms (order_cmp order.now.rows) field (pairs_of terms.now)) }
+        ensures value { IfOk result (λ r.
+            r ≡ from_terms (order_cmp order.now.rows) field (pairs_of terms.now)) }
         ensures sorted { IfOk result (λ r. IsPolynomial field order.now r) }
+        ensures numbers { IfOk result (λ r. HasNumbers field r) }
     {
         let _p = field.p();
         let terms = sums::summed(alloc, field, order, terms)?;
@@ -80,8 +86,10 @@ impl GPoly {
     ) -> Result<GPoly, AllocError>
         requires self_sorted { IsPolynomial field order.now self.now }
         requires other_sorted { IsPolynomial field order.now other.now }
-        ensures value { IfOk result (λ r. r ≡ poly_add (order_cmp order.now.rows) field self.now other.now) }
+        ensures value { IfOk result (λ r.
+            r ≡ poly_add (order_cmp order.now.rows) field self.now other.now) }
         ensures sorted { IfOk result (λ r. IsPolynomial field order.now r) }
+        ensures numbers { IfOk result (λ r. HasNumbers field r) }
         ensures map { IfOk result (λ r. (m : Monomial) →
             coefficient_at m r ≡ (coefficient_at m self.now + coefficient_at m other.now) % field) }
     {
@@ -95,7 +103,9 @@ impl GPoly {
         requires in_range { k < field }
         requires numbers { HasNumbers field self.now }
         ensures value { IfOk result (λ r. r ≡ poly_scale field k self.now) }
-        ensures sorted { IfOk result (λ r. (o : RowOrder) → IsPolynomial field o self.now → IsPolynomial field o r) }
+        ensures numbers { IfOk result (λ r. HasNumbers field r) }
+        ensures sorted { IfOk result (λ r. (o : RowOrder) →
+            IsPolynomial field o self.now → IsPolynomial field o r) }
         ensures map { IfOk result (λ r. (m : Monomial) →
             coefficient_at m r ≡ (k * coefficient_at m self.now) % field) }
     {

@@ -29,14 +29,15 @@ pub fn merged(
     let mut i = 0;
     let mut j = 0;
     while i < left.len() && j < right.len() {
-        let (a, b) = (left[i], right[j]);
+        let a = &left[i];
+        let b = &right[j];
         match order.compare(&a.mono, &b.mono) {
             Ordering::Greater => {
-                sum.push(a)?;
+                sum.push(*a)?;
                 i += 1;
             }
             Ordering::Less => {
-                sum.push(b)?;
+                sum.push(*b)?;
                 j += 1;
             }
             Ordering::Equal => {

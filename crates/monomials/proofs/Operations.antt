@@ -16,6 +16,10 @@ pub HasNumbers-canonical : (cmp : Monomial → Monomial → Ordering) (p : ℕ) 
 HasNumbers-canonical cmp p [] h = tt
 HasNumbers-canonical cmp p (t ∷ f) h = (h.1, HasNumbers-canonical cmp p f h.3)
 
+-- so are those of a sorted one
+pub HasNumbers-polynomial : (p : ℕ) (order : RowOrder) (f : Polynomial) → IsPolynomial p order f → HasNumbers p f
+HasNumbers-polynomial p order f h = HasNumbers-canonical (order_cmp order.rows) p f h.canonical
+
 -- the numbers of a multiple are below p
 pub HasNumbers-poly_scale : (p c : ℕ) (f : Polynomial) → 0 < p → HasNumbers p (poly_scale p c f)
 HasNumbers-poly_scale p c [] pos = tt

@@ -1,6 +1,6 @@
 use Rattle.std.proofs.Common.{rules, ◌≡◌, ◌<◌, ◌*◌, ◌%◌, ◌∙◌, sym, ap, subst, arith}
 use Rattle.monomials.specs.Polynomials.{HasNumbers, IsPolynomial, poly_scale, coefficient_at}
-use Rattle.monomials.proofs.Operations.{IsPolynomial-poly_scale, coefficient_of_multiple}
+use Rattle.monomials.proofs.Operations.{HasNumbers-poly_scale, IsPolynomial-poly_scale, coefficient_of_multiple}
 use Rattle.gpoly.specs.Terms.{pairs_of, IsTermList}
 use Rattle.gpoly.proofs.TermLists.{IsTermList-poly_scale, numbers_at, scaled_all}
 use Rattle.gpoly.proofs.GPoly.scale.Goals as goal
@@ -12,23 +12,28 @@ mul-coef-requires-clause-b_in_range c =
     subst (λ t. t.coef < c.args.field) (sym c.term-item.is)
     (numbers_at c.args.field c.deref-term-items.result.now c.loop-term.term-index _ (search rules) (subst (HasNumbers c.args.field) (sym terms_are) c.requires.numbers))
 
+-- behind the loop the terms are the multiple
+whole : (c : goal.After-loop-term) → pairs_of c.loop-term.terms.items ≡ poly_scale c.args.field c.args.k (pairs_of c.self.inside.terms.items)
+whole c =
+    scaled_all c.args.field c.args.k c.loop-term.terms.items c.deref-term-items.result.now c.self.inside.terms.items c.loop-term.term-index
+    c.loop-term-test.false c.deref-term-items.ensures.value c.loop-term.invariant.rest
+
 pub invariant_of-result : goal.invariant_of-result
 invariant_of-result c =
-    let whole : pairs_of c.loop-term.terms.items ≡ poly_scale c.args.field c.args.k (pairs_of c.self.inside.terms.items) =
-    scaled_all c.args.field c.args.k c.loop-term.terms.items c.deref-term-items.result.now c.self.inside.terms.items c.loop-term.term-index c.loop-term-test.false c.deref-term-items.ensures.value c.loop-term.invariant.rest in
-    subst IsTermList (sym whole) (IsTermList-poly_scale c.args.field c.args.k (pairs_of c.self.inside.terms.items) c.self.invariant)
+    subst IsTermList (sym (whole c)) (IsTermList-poly_scale c.args.field c.args.k (pairs_of c.self.inside.terms.items) c.self.invariant)
 
 pub returns-clause-sorted : goal.returns-clause-sorted
 returns-clause-sorted c o h =
-    let whole : pairs_of c.loop-term.terms.items ≡ poly_scale c.args.field c.args.k c.args.self.now =
-    scaled_all c.args.field c.args.k c.loop-term.terms.items c.deref-term-items.result.now c.self.inside.terms.items c.loop-term.term-index c.loop-term-test.false c.deref-term-items.ensures.value c.loop-term.invariant.rest
-    ∙ ap (poly_scale c.args.field c.args.k) c.self.view_is in
-    subst (IsPolynomial c.args.field o) (sym whole) (IsPolynomial-poly_scale c.args.field o (omega (arith, c.p-p.ensures.prime.above_one)) c.args.k c.args.self.now h)
+    subst (IsPolynomial c.args.field o) (sym (whole c ∙ ap (poly_scale c.args.field c.args.k) c.self.view_is))
+    (IsPolynomial-poly_scale c.args.field o (omega (arith, c.p-p.ensures.prime.above_one)) c.args.k c.args.self.now h)
+
+pub returns-clause-numbers : goal.returns-clause-numbers
+returns-clause-numbers c =
+    subst (HasNumbers c.args.field) (sym (whole c))
+    (HasNumbers-poly_scale c.args.field c.args.k (pairs_of c.self.inside.terms.items) (omega (arith, c.p-p.ensures.prime.above_one)))
 
 pub returns-clause-map : goal.returns-clause-map
 returns-clause-map c m =
-    let whole : pairs_of c.loop-term.terms.items ≡ poly_scale c.args.field c.args.k (pairs_of c.self.inside.terms.items) =
-    scaled_all c.args.field c.args.k c.loop-term.terms.items c.deref-term-items.result.now c.self.inside.terms.items c.loop-term.term-index c.loop-term-test.false c.deref-term-items.ensures.value c.loop-term.invariant.rest in
-    ap (coefficient_at m) whole
+    ap (coefficient_at m) (whole c)
     ∙ coefficient_of_multiple c.args.field c.args.k m (pairs_of c.self.inside.terms.items) (omega (arith, c.p-p.ensures.prime.above_one)) c.self.invariant.apart
     ∙ ap (λ f. c.args.k * coefficient_at m f % c.args.field) c.self.view_is

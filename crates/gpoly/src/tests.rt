@@ -1,0 +1,89 @@
+ghost use Rattle.std.specs.Prelude.{◌≤◌, IfOk};
+ghost use Rattle.monomials.specs.Monomials.{degree};
+ghost use Rattle.monomials.specs.Polynomials.{Each, HasVars, HasNumbers};
+ghost use Rattle.gpoly.specs.Terms.{pairs_of};
+
+use super::{GPoly, Term};
+use monomials::{Block, Expo, Order};
+use prime_field::Field;
+use std::alloc::{AllocError, Global};
+use std::test::Fail;
+
+// A term c x^a y^b, as (c, a, b).
+type Row = (u32, u8, u8);
+
+fn terms_of(alloc: Global, field: Field, rows: &[Row]) -> Result<Vec<Term>, AllocError>
+    ensures numbers { IfOk result (λ v. HasNumbers field (pairs_of v.items)) }
+    ensures vars { IfOk result (λ v. HasVars 2 (pairs_of v.items)) }
+    ensures small { IfOk result (λ v. Each (λ t. degree t.1 ≤ 4095) (pairs_of v.items)) }
+{
+    let mut terms = Vec::new(alloc);
+    for row in rows {
+        let coef = field.from_int(u64::from(row.0));
+        let mono = Expo::of(&[u16::from(row.1), u16::from(row.2)]);
+        terms.push(Term { coef, mono })?;
+    }
+    Ok(terms)
+}
+
+// Given, the same sorted, and its degree.
+const SORTED: [(u32, &[Row], &[Row], u32); 6] = [
+    (7, &[], &[], 0),
+    (7, &[(5, 0, 0)], &[(5, 0, 0)], 0),
+    (
+        7,
+        &[(3, 0, 2), (1, 1, 0), (2, 2, 0)],
+        &[(2, 2, 0), (3, 0, 2), (1, 1, 0)],
+        2,
+    ),
+    (
+        7,
+        &[(3, 0, 1), (6, 1, 0), (5, 0, 1), (6, 1, 0)],
+        &[(5, 1, 0), (1, 0, 1)],
+        1,
+    ),
+    (7, &[(3, 1, 1), (1, 0, 0), (4, 1, 1)], &[(1, 0, 0)], 0),
+    (
+        2,
+        &[(1, 0, 3), (1, 1, 1), (1, 0, 3), (1, 0, 3)],
+        &[(1, 0, 3), (1, 1, 1)],
+        3,
+    ),
+];
+
+#[test]
+fn sorts_and_adds_up(rt: HostRuntime) -> Result<(), Fail> {
+    let alloc = rt.alloc();
+    let order = Order::new(alloc, &[Block::DegRev { len: 2 }], 2)?;
+    for (p, given, sorted, degree) in &SORTED {
+        let field = Field::of(*p)?;
+        let given = terms_of(alloc, field, given)?;
+        let sorted = terms_of(alloc, field, sorted)?;
+        let f = GPoly::from_terms(alloc, field, &order, &given)?;
+        assert_eq!(rt; f.terms(), sorted.as_slice());
+        assert_eq!(rt; f.degree(), *degree);
+        assert_eq!(rt; f.is_zero(), sorted.is_empty());
+    }
+    Ok(())
+}
+
+#[test]
+fn adds_and_scales(rt: HostRuntime) -> Result<(), Fail> {
+    let alloc = rt.alloc();
+    let field = Field::of(7)?;
+    let order = Order::new(alloc, &[Block::DegRev { len: 2 }], 2)?;
+    let f = terms_of(alloc, field, &[(2, 2, 0), (3, 1, 0), (1, 0, 0)])?;
+    let g = terms_of(alloc, field, &[(5, 1, 1), (4, 1, 0), (6, 0, 0)])?;
+    let sum = terms_of(alloc, field, &[(2, 2, 0), (5, 1, 1)])?;
+    let thrice = terms_of(alloc, field, &[(6, 2, 0), (2, 1, 0), (3, 0, 0)])?;
+    let f = GPoly::from_terms(alloc, field, &order, &f)?;
+    let g = GPoly::from_terms(alloc, field, &order, &g)?;
+    let f_and_g = f.add(alloc, field, &order, &g)?;
+    assert_eq!(rt; f_and_g.terms(), sum.as_slice());
+    assert!(rt; f_and_g.equals(&g.add(alloc, field, &order, &f)?));
+    assert!(rt; !f.equals(&g));
+    let f_thrice = f.scale(alloc, field, 3)?;
+    assert_eq!(rt; f_thrice.terms(), thrice.as_slice());
+    assert!(rt; f.scale(alloc, field, 0)?.equals(&GPoly::zero(alloc)));
+    Ok(())
+}

@@ -1,6 +1,10 @@
+ghost use Rattle.std.specs.Prelude.{◌≤◌, length};
+ghost use Rattle.word_model.specs.Words.{IsWord};
+
 use super::TwoVariables;
 use gpoly::GPoly;
 use prime_field::Field;
+use std::alloc::Global;
 use std::process::Abort;
 use std::test::Fail;
 
@@ -23,29 +27,31 @@ fn assert_terms(rt: &impl Abort, product: &GPoly, want: &[(u32, u16, u16)]) {
     }
 }
 
+// The product of the letters with d x = c x d + e modulo p.
+fn product(alloc: Global, p: u32, c: u32, e: u32, letters: &[u8]) -> Result<GPoly, Fail>
+    requires letters { IsWord 2 letters.now }
+    requires some { 1 ≤ length letters.now }
+    requires few { length letters.now ≤ 4095 }
+{
+    let algebra = TwoVariables::new(alloc, Field::of(p)?, c, e)?;
+    let product = algebra.letters_product(alloc, letters)?;
+    Ok(product)
+}
+
 #[test]
 fn small_products(rt: HostRuntime) -> Result<(), Fail> {
     let alloc = rt.alloc();
-    let weyl = TwoVariables::new(alloc, Field::of(7)?, 1, 1)?;
     assert_terms(
         &rt,
-        &weyl.letters_product(alloc, &[2, 1])?,
+        &product(alloc, 7, 1, 1, &[2, 1])?,
         &[(1, 1, 1), (1, 0, 0)],
     );
-    assert_terms(&rt, &weyl.letters_product(alloc, &[2])?, &[(1, 0, 1)]);
-    let weyl = TwoVariables::new(alloc, Field::of(2)?, 1, 1)?;
-    assert_terms(&rt, &weyl.letters_product(alloc, &[2, 2, 1])?, &[(1, 1, 2)]);
-    let quantum = TwoVariables::new(alloc, Field::of(7)?, 3, 0)?;
-    assert_terms(
-        &rt,
-        &quantum.letters_product(alloc, &[2, 1, 1])?,
-        &[(2, 2, 1)],
-    );
+    assert_terms(&rt, &product(alloc, 2, 1, 1, &[2, 2, 1])?, &[(1, 1, 2)]);
+    assert_terms(&rt, &product(alloc, 7, 3, 0, &[2, 1, 1])?, &[(2, 2, 1)]);
     // The numbers of a relation are taken modulo the characteristic.
-    let wrapped = TwoVariables::new(alloc, Field::of(7)?, 10, 4294967295)?;
     assert_terms(
         &rt,
-        &wrapped.letters_product(alloc, &[2, 1])?,
+        &product(alloc, 7, 10, 4294967295, &[2, 1])?,
         &[(3, 1, 1), (3, 0, 0)],
     );
     Ok(())

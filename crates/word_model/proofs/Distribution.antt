@@ -9,7 +9,7 @@ use Rattle.monomials.proofs.Canonical.{same_poly, IsCanonical-poly_add, IsCanoni
 use Rattle.monomials.proofs.OrderLaws.{order_cmp_total, order_cmp_tied}
 use Rattle.word_model.specs.Words.{Algebra, normal_form, sorted_word}
 use Rattle.word_model.specs.Products.{product}
-use Rattle.word_model.proofs.NormalForms.{word_weight, weigh-product}
+use Rattle.word_model.proofs.NormalForms.{word_weight, row_weight, weigh-product}
 
 module _ (A : Algebra) (pos : 0 < A.p) where
   -- the sum of two polynomials of the algebra
@@ -35,15 +35,11 @@ module _ (A : Algebra) (pos : 0 < A.p) where
   weigh-sum_of : (φ : Monomial → ℕ) (f g : Polynomial) → Same A.p (weigh φ (sum_of f g)) (weigh φ f + weigh φ g)
   weigh-sum_of φ f g = weigh-poly_add (order_cmp A.order.rows) (order_cmp_tied A.order.rows) A.p φ f g
 
-  -- the weight of a monomial's products with the terms of g
-  abbrev pub row_weight : (Monomial → ℕ) → Polynomial → Monomial → ℕ
-  row_weight φ g a = weigh (λ b. word_weight A φ (sorted_word a ++ sorted_word b)) g
-
   -- over a sum on the left
   pub product-left : (f g h : Polynomial) → product A (sum_of f g) h ≡ sum_of (product A f h) (product A g h)
   product-left f g h = equal _ _ (product_in_order (sum_of f g) h) (sum_in_order (product A f h) (product A g h) (product_in_order g h))
       (λ φ.
-      weigh-product A φ (sum_of f g) h ∙ weigh-sum_of (row_weight φ h) f g
+      weigh-product A φ (sum_of f g) h ∙ weigh-sum_of (row_weight A φ h) f g
       ∙ same_add A.p _ _ _ _ (sym (weigh-product A φ f h)) (sym (weigh-product A φ g h))
       ∙ sym (weigh-sum_of φ (product A f h) (product A g h)))
 
@@ -53,6 +49,6 @@ module _ (A : Algebra) (pos : 0 < A.p) where
       (λ φ.
       weigh-product A φ f (sum_of g h)
       ∙ weigh_alike A.p _ _ (λ a. weigh-sum_of (λ b. word_weight A φ (sorted_word a ++ sorted_word b)) g h) f
-      ∙ same_refl A.p _ _ (weigh-sum (row_weight φ g) (row_weight φ h) f)
+      ∙ same_refl A.p _ _ (weigh-sum (row_weight A φ g) (row_weight A φ h) f)
       ∙ same_add A.p _ _ _ _ (sym (weigh-product A φ f g)) (sym (weigh-product A φ f h))
       ∙ sym (weigh-sum_of φ (product A f g) (product A f h)))

@@ -13,6 +13,11 @@ pub Each-map : {X Y : Type 0} (P : Y → Type 0) (h : X → Y) (xs : List X) →
 Each-map P h [] e = tt
 Each-map P h (x ∷ xs) e = (e.0, Each-map P h xs e.1)
 
+-- what follows from P and Q of each element
+pub Each-both : {X : Type 0} (P Q R : X → Type 0) → ((x : X) → P x → Q x → R x) → (xs : List X) → Each P xs → Each Q xs → Each R xs
+Each-both P Q R f [] h k = tt
+Each-both P Q R f (x ∷ xs) h k = (f x h.0 k.0, Each-both P Q R f xs h.1 k.1)
+
 -- ---- counts
 
 pub count_of-append : (v : ℕ) (u w : Word) → count_of v (u ++ w) ≡ count_of v u + count_of v w

@@ -5,5 +5,17 @@ pub mod Ranks
 pub mod Termination
 pub mod NormalForms
 pub mod Distribution
+pub mod Induction
+pub mod Degrees
+pub mod Rules
+pub mod LeadingMonomials
+pub mod Faults
+pub mod Acceptance
 pub mod TwoVariables
+pub mod Places
+pub mod Inside
+pub mod Apart
+pub mod Overlaps
+pub mod Confluence
+pub mod Associativity
 mod Rows

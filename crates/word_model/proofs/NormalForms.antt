@@ -74,8 +74,12 @@ module _ (A : Algebra) (φ : Monomial → ℕ) where
       → Same A.p (word_weight w) (weigh word_weight (rewritten A s))
   word_weight-descent paired w s word e = same_refl A.p _ _ (ap (weigh φ) (normal_form-descent A paired w s word e)) ∙ weigh-word_value (rewritten A s)
 
+  -- the weight of a monomial's products with the terms of g
+  abbrev pub row_weight : Polynomial → Monomial → ℕ
+  row_weight g a = weigh (λ b. word_weight (sorted_word a ++ sorted_word b)) g
+
   -- the weight of a product is that of the words of its pairs of terms
-  pub weigh-product : (f g : Polynomial) → Same A.p (weigh φ (product A f g)) (weigh (λ a. weigh (λ b. word_weight (sorted_word a ++ sorted_word b)) g) f)
+  pub weigh-product : (f g : Polynomial) → Same A.p (weigh φ (product A f g)) (weigh (row_weight g) f)
   unfolding product
   weigh-product f g =
       weigh-sum_over (order_cmp A.order.rows) (order_cmp_tied A.order.rows) A.p φ (λ a. sum_over (order_cmp A.order.rows) A.p (λ b. normal_form A (sorted_word a ++ sorted_word b)) g) f

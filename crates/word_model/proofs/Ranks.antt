@@ -116,7 +116,8 @@ how_many_above a b f y ay by (m ∷ ms) (inr h) = omega (arith, one_at_most (a m
 abbrev pub rank : List (List ℤ) → ℕ → ℕ → Monomial → ℕ
 rank rows n l m = how_many (λ x. is_lt (order_cmp rows x m)) (monomials_up_to n l)
 
-less_is : (o : Ordering) → is_lt o ≡ true → o ≡ Less
+-- the test for Less tells it
+pub less_is : (o : Ordering) → is_lt o ≡ true → o ≡ Less
 less_is Less e = refl
 less_is Equal e = cc
 less_is Greater e = cc

@@ -1,9 +1,13 @@
 -- The worked rows, computed from the definitions.
-use Rattle.std.proofs.Common.{◌≡◌, [], ◌∷◌, ◌++◌, codes, refl}
+use Rattle.std.proofs.Common.{◌≡◌, ℕ, List, [], ◌∷◌, ◌++◌, codes, pos, Some, None, refl}
 use Rattle.std.specs.Fmt.{digits}
-use Rattle.word_model.specs.Words.{normal_form, normal_form_within}
+use Rattle.monomials.specs.Polynomials.{Polynomial}
+use Rattle.monomials.specs.Blocks.{dp_rows}
+use Rattle.word_model.specs.Words.{Algebra, normal_form, normal_form_within, word_value}
 use Rattle.word_model.specs.Products.{product}
-use Rattle.word_model.specs.Scripts.{line_feed, read_script}
+use Rattle.word_model.specs.Scripts.{line_feed, two_variables, read_script}
+use Rattle.word_model.specs.Conditions.{Fault, relations_fault}
+use Rattle.word_model.specs.Conditions.Fault.{Coefficient, Profile, NonDegeneracy}
 use Rattle.word_model.specs.Answers.{answer_of, script_text, line}
 
 -- d x = x d + 1 modulo 7
@@ -33,3 +37,38 @@ no_form = refl
 refused_word : answer_of (codes "x" ∷ []) [] ≡ record { text = line (codes "? Words, expected [--pairs N] [--make K]"); status = 2 }
 unfolding answer_of
 refused_word = refl
+
+-- ---- conditions on relations
+
+-- the algebra in three variables ordered by dp over the field with 7 elements, with these relations
+abbrev three_variables : List ℕ → List Polynomial → Algebra
+three_variables c d = record { p = 7; order = record { vars = 3; rows = dp_rows 3 0 3 }; c = c; d = d }
+
+-- y x = x y + z, z x = x z and z y = y z + y: the triple leaves z
+triple_leaves_rest : relations_fault (three_variables (1 ∷ 1 ∷ 1 ∷ []) (((1, 0 ∷ 0 ∷ 1 ∷ []) ∷ []) ∷ [] ∷ ((1, 0 ∷ 1 ∷ 0 ∷ []) ∷ []) ∷ []))
+    ≡ Some (NonDegeneracy 1 2 3 ((1, 0 ∷ 0 ∷ 1 ∷ []) ∷ []))
+unfolding relations_fault word_value normal_form normal_form_within
+triple_leaves_rest = refl
+
+-- the same with z y = y
+zero_number : relations_fault (three_variables (1 ∷ 1 ∷ 0 ∷ []) (((1, 0 ∷ 0 ∷ 1 ∷ []) ∷ []) ∷ [] ∷ ((1, 0 ∷ 1 ∷ 0 ∷ []) ∷ []) ∷ []))
+    ≡ Some (Coefficient 2 3)
+unfolding relations_fault
+zero_number = refl
+
+-- y x = x y + x^2, ordered by dp: x^2 is above x y
+too_great : relations_fault (record { p = 7; order = record { vars = 2; rows = dp_rows 2 0 2 }; c = 1 ∷ []; d = ((1, 2 ∷ 0 ∷ []) ∷ []) ∷ [] })
+    ≡ Some (Fault.Ordering 1 2)
+unfolding relations_fault
+too_great = refl
+
+-- y x = x y + y^3, ordered lexicographically: y^3 is below x y, and of degree 3
+too_high : relations_fault (record { p = 7; order = record { vars = 2; rows = (pos 1 ∷ pos 0 ∷ []) ∷ (pos 0 ∷ pos 1 ∷ []) ∷ [] }; c = 1 ∷ []; d = ((1, 0 ∷ 3 ∷ []) ∷ []) ∷ [] })
+    ≡ Some (Profile 1 2)
+unfolding relations_fault
+too_high = refl
+
+-- d x = x d + 1
+weyl_passes : relations_fault (two_variables 7 1 1) ≡ None
+unfolding relations_fault
+weyl_passes = refl

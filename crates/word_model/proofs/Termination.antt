@@ -79,7 +79,8 @@ IsLess A l w v = IsWord A.order.vars v × (length v ≤ l) × (measure A l v < m
 
 -- ---- rewriting makes words smaller
 
-plus-comm : (a b : Monomial) → plus a b ≡ plus b a
+-- the product of monomials does not depend on their order
+pub plus-comm : (a b : Monomial) → plus a b ≡ plus b a
 plus-comm [] [] = refl
 plus-comm [] (y ∷ b) = refl
 plus-comm (x ∷ a) [] = refl

@@ -1,11 +1,14 @@
 //! Laws of words and products, each the contract of a function without a body.
 
-ghost use Rattle.std.specs.Prelude.{◌≡◌, ℕ, ◌<◌, ◌≤◌, List, [], ◌∷◌, length, Some, None};
-ghost use Rattle.monomials.specs.Monomials.{Monomial, degree, variable};
+ghost use Rattle.std.specs.Prelude.{◌≡◌, ◌≢◌, ℕ, ◌+◌, ◌<◌, ◌≤◌, ◌⊎◌, List, [], ◌∷◌, ◌++◌, length, Option, Some, None};
+ghost use Rattle.prime_field.specs.Modular.{IsPrime};
+ghost use Rattle.monomials.specs.Monomials.{Monomial, degree, plus, variable};
 ghost use Rattle.monomials.specs.Orders.{order_cmp};
-ghost use Rattle.monomials.specs.Polynomials.{Polynomial, IsPolynomial, poly_add};
+ghost use Rattle.monomials.specs.Polynomials.{Polynomial, HasVars, IsPolynomial, poly_add, poly_degree};
 ghost use Rattle.word_model.specs.Words.{Algebra, Word, WordSum, IsWord, monomial_of, sorted_word, Descent, leftmost_descent, rewritten, normal_form, word_value, IsPaired};
-ghost use Rattle.word_model.specs.Products.{product};
+ghost use Rattle.word_model.specs.Leading.{leading_monomial};
+ghost use Rattle.word_model.specs.Conditions.{Fault, pair_fault, triple_fault, first_from, relations_fault, NonZero, IsField, IsRegular, IsAlgebraData, IsAccepted};
+ghost use Rattle.word_model.specs.Products.{product, letters_product};
 ghost use Rattle.word_model.specs.Scripts.{two_variables};
 
 /// The sorted words are the words without a descent, one for each monomial.
@@ -24,16 +27,19 @@ pub fn sorted_word_form()
 pub fn rewriting()
     ensures sorted { (A : Algebra) (w : Word) → leftmost_descent w ≡ None →
         normal_form A w ≡ (1, monomial_of A.order.vars w) ∷ [] }
-    ensures rewritten { (A : Algebra) (w : Word) (s : Descent) → IsPaired A → IsWord A.order.vars w →
-        leftmost_descent w ≡ Some s → normal_form A w ≡ word_value A (rewritten A s) }
+    ensures rewritten { (A : Algebra) (w : Word) (s : Descent) → IsPaired A →
+        IsWord A.order.vars w → leftmost_descent w ≡ Some s →
+        normal_form A w ≡ word_value A (rewritten A s) }
     ensures two_variables { (p c e : ℕ) → IsPaired (two_variables p c e) }
 {}
 
 /// Normal forms of words and of sums of words, and products, are polynomials of the algebra.
 pub fn normal_forms_are_polynomials()
     ensures word { (A : Algebra) (w : Word) → 1 < A.p → IsPolynomial A.p A.order (normal_form A w) }
-    ensures sum { (A : Algebra) (f : WordSum) → 1 < A.p → IsPolynomial A.p A.order (word_value A f) }
-    ensures product { (A : Algebra) (f g : Polynomial) → 1 < A.p → IsPolynomial A.p A.order (product A f g) }
+    ensures sum { (A : Algebra) (f : WordSum) → 1 < A.p →
+        IsPolynomial A.p A.order (word_value A f) }
+    ensures product { (A : Algebra) (f g : Polynomial) → 1 < A.p →
+        IsPolynomial A.p A.order (product A f g) }
 {}
 
 /// Products distribute over sums, on both sides.
@@ -44,4 +50,79 @@ pub fn distribute()
     ensures right { (A : Algebra) (f g h : Polynomial) → 0 < A.p →
         product A f (poly_add (order_cmp A.order.rows) A.p g h)
         ≡ poly_add (order_cmp A.order.rows) A.p (product A f g) (product A f h) }
+{}
+
+/// The degree of a product is at most the sum of the degrees, where rewriting leads downwards.
+pub fn degree_bound()
+    ensures { (A : Algebra) (f g : Polynomial) → IsPaired A → HasVars A.order.vars f →
+        HasVars A.order.vars g → poly_degree (product A f g) ≤ poly_degree f + poly_degree g }
+{}
+
+/// Products of nonzero polynomials are not zero, and leading monomials multiply: over a field,
+/// where rewriting leads downwards and no number of a relation is zero.
+pub fn leading_terms()
+    ensures nonzero { (A : Algebra) (f g : Polynomial) → IsField A.p → IsPaired A → IsRegular A →
+        IsPolynomial A.p A.order f → IsPolynomial A.p A.order g → f ≢ [] → g ≢ [] →
+        product A f g ≢ [] }
+    ensures leading { (A : Algebra) (f g : Polynomial) → IsField A.p → IsPaired A → IsRegular A →
+        IsPolynomial A.p A.order f → IsPolynomial A.p A.order g → f ≢ [] → g ≢ [] →
+        leading_monomial (product A f g) ≡ plus (leading_monomial f) (leading_monomial g) }
+{}
+
+/// Relations without a fault are accepted over a field, as those of each algebra of two variables
+/// with a constant and a nonzero number are. The numbers modulo a prime are a field.
+pub fn acceptance()
+    ensures accepted { (A : Algebra) → relations_fault A ≡ None → IsAlgebraData A → IsField A.p →
+        IsAccepted A }
+    ensures field { (p : ℕ) → IsPrime p → IsField p }
+    ensures two_variables { (p c e : ℕ) → IsField p → NonZero p c →
+        (relations_fault (two_variables p c e) ≡ None) × IsAlgebraData (two_variables p c e)
+        × IsAccepted (two_variables p c e) }
+{}
+
+/// The first test that fails gives the fault: all pairs are tested in lexicographic order, and then
+/// all triples.
+pub fn first_fault()
+    ensures passed { (test : ℕ → Option Fault) (k m : ℕ) →
+        ((i : ℕ) → k ≤ i → i < k + m → test i ≡ None) → first_from test k m ≡ None }
+    ensures found { (test : ℕ → Option Fault) (k m i : ℕ) (f : Fault) → k ≤ i → i < k + m →
+        ((j : ℕ) → k ≤ j → j < i → test j ≡ None) → test i ≡ Some f → first_from test k m ≡ Some f }
+    ensures none { (A : Algebra) →
+        ((i j : ℕ) → 1 ≤ i → i < j → j ≤ A.order.vars → pair_fault A i j ≡ None) →
+        ((i j k : ℕ) → 1 ≤ i → i < j → j < k → k ≤ A.order.vars → triple_fault A i j k ≡ None) →
+        relations_fault A ≡ None }
+    ensures pair { (A : Algebra) (i j : ℕ) (f : Fault) → 1 ≤ i → i < j → j ≤ A.order.vars →
+        ((a b : ℕ) → 1 ≤ a → a < b → b ≤ A.order.vars → (a < i) ⊎ ((a ≡ i) × (b < j)) →
+        pair_fault A a b ≡ None) →
+        pair_fault A i j ≡ Some f → relations_fault A ≡ Some f }
+    ensures triple { (A : Algebra) (i j k : ℕ) (f : Fault) →
+        ((i j : ℕ) → 1 ≤ i → i < j → j ≤ A.order.vars → pair_fault A i j ≡ None) →
+        1 ≤ i → i < j → j < k → k ≤ A.order.vars →
+        ((a b c : ℕ) → 1 ≤ a → a < b → b < c → c ≤ A.order.vars →
+        (a < i) ⊎ ((a ≡ i) × ((b < j) ⊎ ((b ≡ j) × (c < k)))) → triple_fault A a b c ≡ None) →
+        triple_fault A i j k ≡ Some f → relations_fault A ≡ Some f }
+{}
+
+/// A word has the same normal form whichever two letters in descending order are rewritten first.
+pub fn any_pair_first()
+    ensures { (A : Algebra) (u : Word) (j i : ℕ) (v : Word) → IsAccepted A →
+        IsWord A.order.vars (u ++ j ∷ i ∷ v) → i < j →
+        normal_form A (u ++ j ∷ i ∷ v)
+        ≡ word_value A (rewritten A (record { before = u; high = j; low = i; after = v })) }
+{}
+
+/// The product of an accepted algebra is associative.
+pub fn associate()
+    ensures { (A : Algebra) (f g h : Polynomial) → IsAccepted A → HasVars A.order.vars f →
+        HasVars A.order.vars g → HasVars A.order.vars h →
+        product A (product A f g) h ≡ product A f (product A g h) }
+{}
+
+/// In an accepted algebra normal forms multiply as words do: the letters of a word, multiplied from
+/// left to right, give its normal form.
+pub fn letters_multiply()
+    ensures letters { (A : Algebra) (w : Word) → IsAccepted A → IsWord A.order.vars w →
+        letters_product A w ≡ normal_form A w }
+    ensures words { (A : Algebra) (u w : Word) → IsAccepted A → IsWord A.order.vars (u ++ w) →
+        product A (normal_form A u) (normal_form A w) ≡ normal_form A (u ++ w) }
 {}

@@ -1,0 +1,14 @@
+-- Leading data of polynomials.
+use Rattle.std.specs.Prelude.{ℕ, [], ◌∷◌}
+use Rattle.monomials.specs.Monomials.{Monomial}
+use Rattle.monomials.specs.Polynomials.{Polynomial}
+
+-- the greatest monomial of a nonzero polynomial
+abbrev pub leading_monomial : Polynomial → Monomial
+leading_monomial [] = []
+leading_monomial (t ∷ f) = t.1
+
+-- its number
+abbrev pub leading_coefficient : Polynomial → ℕ
+leading_coefficient [] = 0
+leading_coefficient (t ∷ f) = t.0

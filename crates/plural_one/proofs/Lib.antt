@@ -1,0 +1,4 @@
+mod ProductWords
+mod ProductSums
+mod ProductRewriting
+mod ProductLetters

@@ -1,0 +1,6 @@
+//! Reads a script on standard input and prints what it is answered.
+#![tactic(auto)]
+
+mod run;
+
+fn main() {}

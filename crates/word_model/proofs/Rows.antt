@@ -1,10 +1,10 @@
 -- The worked rows, computed from the definitions.
-use Rattle.std.proofs.Common.{◌≡◌, ℕ, List, [], ◌∷◌, ◌++◌, codes, refl}
+use Rattle.std.proofs.Common.{◌≡◌, [], ◌∷◌, ◌++◌, codes, refl}
 use Rattle.std.specs.Fmt.{digits}
-use Rattle.word_model.specs.Words.{normal_form, normal_form_within, word_value}
+use Rattle.word_model.specs.Words.{normal_form, normal_form_within}
 use Rattle.word_model.specs.Products.{product}
 use Rattle.word_model.specs.Scripts.{line_feed, read_script}
-use Rattle.word_model.specs.Answers.{Answer, answer_of, script_text, line}
+use Rattle.word_model.specs.Answers.{answer_of, script_text, line}
 
 -- d x = x d + 1 modulo 7
 weyl_product : answer_of [] (codes "ring r = 7,(x,d),dp;" ++ (line_feed ++ (codes "def W = nc_algebra(1,1); setring W;" ++ (line_feed ++ (codes "d*x;" ++ line_feed)))))

@@ -1,6 +1,5 @@
 -- The text and the status that the program answers, from its command words and the bytes of its script.
 use Rattle.std.specs.Prelude.{ℕ, List, [], ◌∷◌, ◌++◌, length, Option, Some, None, nat_lt, codes, if◌then◌else◌}
-use Rattle.word_model.specs.Words.{Algebra}
 use Rattle.word_model.specs.Products.{letters_product}
 use Rattle.word_model.specs.Texts.{polynomial_text}
 use Rattle.word_model.specs.Scripts.{ShortScript, line_feed, script_algebra, script_word, read_script}

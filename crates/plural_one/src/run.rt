@@ -25,10 +25,10 @@ pub fn run_one<S: Source, K: Sink>(
     ensures completes { (Rose (S.faults source.old) (S.faults source.new) → ⊥)
         → (Rose (K.faults sink.old) (K.faults sink.new) → ⊥)
         → IsUndisturbed (map string_bytes words.now)
-            (record { left = S.left source.old; faults = S.faults source.old })
-            (record { left = S.left source.new; faults = S.faults source.new })
-            (record { held = K.held sink.old; faults = K.faults sink.old })
-            (record { held = K.held sink.new; faults = K.faults sink.new }) result }
+        (record { left = S.left source.old; faults = S.faults source.old })
+        (record { left = S.left source.new; faults = S.faults source.new })
+        (record { held = K.held sink.old; faults = K.faults sink.old })
+        (record { held = K.held sink.new; faults = K.faults sink.new }) result }
 {
     7
 }

@@ -53,7 +53,7 @@ prefix_len-all p (x ∷ xs) h =
     let both = and_parts (p x) (list_all p xs) h in rw both.0 (ap (λ n. 1 + n) (prefix_len-all p xs both.1) ∙ omega arith)
 
 -- the front that passes, passes
-list_all-prefix : {X : Type 0} (p : X → Bool) (xs : List X) → list_all p (take (prefix_len p xs) xs) ≡ true
+pub list_all-prefix : {X : Type 0} (p : X → Bool) (xs : List X) → list_all p (take (prefix_len p xs) xs) ≡ true
 list_all-prefix p [] = refl
 list_all-prefix p (x ∷ xs) =
     elim (cases_Bool (p x)) [

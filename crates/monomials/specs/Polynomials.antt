@@ -1,6 +1,6 @@
 -- Polynomials as lists of terms, each a number and a key, with the greatest key first. The keys of a polynomial are monomials;
 -- sums of words have words as keys.
-use Rattle.std.specs.Prelude.{◌≡◌, ℕ, zero, suc, ◌+◌, ◌*◌, ◌%◌, ◌<◌, max, List, [], ◌∷◌, length}
+use Rattle.std.specs.Prelude.{◌≡◌, ◌≢◌, ℕ, zero, suc, ◌+◌, ◌*◌, ◌%◌, ◌<◌, max, List, [], ◌∷◌, length}
 use Rattle.std.specs.declared.cmp.Ordering.{Ordering}
 use Rattle.std.specs.declared.cmp.Ordering.TheVariants.{Less, Equal, Greater}
 use Rattle.std.specs.Ordering.{nat_cmp}
@@ -69,6 +69,11 @@ HasVars n f = Each (λ t. length t.1 ≡ n) f
 -- all numbers are below p
 abbrev pub HasNumbers : ℕ → Polynomial → Type 0
 HasNumbers p f = Each (λ t. t.0 < p) f
+
+-- the keys are pairwise different
+abbrev pub IsApart : {K : Type 0} → List (ℕ × K) → Type 0
+IsApart [] = Unit {0}
+IsApart (t ∷ f) = Each (λ u. t.1 ≢ u.1) f × IsApart f
 
 -- a polynomial over the field with p elements in the variables of an order, sorted by it
 pub record IsPolynomial (p : ℕ) (order : RowOrder) (f : Polynomial) : Type 0 where

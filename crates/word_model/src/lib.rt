@@ -1,4 +1,4 @@
 //! What the programs compute: definitions over plain lists and numbers, and the laws that hold of them.
 #![tactic(auto)]
 
-pub mod reading;
+pub mod laws;

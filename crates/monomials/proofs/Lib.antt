@@ -1,0 +1,9 @@
+pub mod Modulo
+pub mod Insertion
+pub mod Weights
+pub mod Canonical
+pub mod Merge
+pub mod Keys
+pub mod OrderLaws
+pub mod Coefficients
+pub mod Operations

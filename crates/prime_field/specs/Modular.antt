@@ -1,0 +1,23 @@
+-- The prime fields of the table, and the integers that stand for their elements in print.
+use Rattle.std.specs.Prelude.{◌≢◌, ℕ, ◌/◌, ◌%◌, ◌<◌, ◌==◌, nat_le, Bool, List, [], ◌∷◌, ℤ, pos, ◌-ℤ◌, if◌then◌else◌}
+use Rattle.std.specs.List.{list_any}
+
+-- the characteristics: every prime up to 101, and the primes 251, 32003 and 65521
+abbrev pub characteristics : List ℕ
+characteristics =
+    2 ∷ 3 ∷ 5 ∷ 7 ∷ 11 ∷ 13 ∷ 17 ∷ 19 ∷ 23 ∷ 29 ∷ 31 ∷ 37 ∷ 41 ∷ 43 ∷ 47 ∷ 53 ∷ 59 ∷ 61 ∷ 67 ∷ 71 ∷ 73 ∷ 79 ∷ 83 ∷ 89 ∷ 97
+    ∷ 101 ∷ 251 ∷ 32003 ∷ 65521 ∷ []
+
+-- whether p is one of the characteristics
+abbrev pub in_table : ℕ → Bool
+in_table p = list_any (λ q. q == p) characteristics
+
+-- p is a prime below 65536: at least 2, and no number strictly between 1 and p divides it
+pub record IsPrime (p : ℕ) : Type 0 where
+  pub above_one : 1 < p
+  pub small : p < 65536
+  pub no_divisor : (d : ℕ) → 1 < d → d < p → p % d ≢ 0
+
+-- for a below p, the integer congruent to a modulo p of least absolute value, the positive one where p is 2
+abbrev pub symmetric : ℕ → ℕ → ℤ
+symmetric p a = if nat_le a (p / 2) then pos a else (pos a -ℤ pos p)

@@ -2,3 +2,4 @@ pub mod Digits
 pub mod Texts
 pub mod Letters
 pub mod Values
+pub mod Monomials

@@ -3,5 +3,6 @@
 
 mod run;
 mod script;
+mod text;
 
 fn main() {}

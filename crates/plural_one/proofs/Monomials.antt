@@ -1,7 +1,7 @@
 -- The text of a monomial, a variable at a time.
-use Rattle.std.proofs.Common.{◌≡◌, ℕ, zero, suc, ◌+◌, ◌<◌, ◌≤◌, Bool, true, false, List, [], ◌∷◌, ◌++◌, length, map, get_or, drop, refl, sym, ◌∙◌, ap, append_assoc, append-nil, arith}
+use Rattle.std.proofs.Common.{◌≡◌, ℕ, zero, suc, ◌+◌, ◌<◌, Bool, true, false, List, [], ◌∷◌, ◌++◌, length, get_or, drop, refl, sym, ◌∙◌, ap, append_assoc, append-nil, arith}
 use Rattle.std.specs.List.{join_with_byte}
-use Rattle.std.proofs.lemmas.List.{drop_more, get_or-map}
+use Rattle.std.proofs.lemmas.List.{drop_more}
 use Rattle.monomials.specs.Monomials.{Monomial}
 use Rattle.word_model.specs.Texts.{power_text, power_texts}
 

@@ -1,10 +1,10 @@
 -- The values that are read are those of the script that is read.
-use Rattle.std.proofs.Common.{◌≡◌, ℕ, ◌%◌, ◌==◌, ◌&&◌, not, Bool, true, false, List, [], ◌∷◌, ◌++◌, map, Option, Some, None, codes, refl, sym, ◌∙◌, ap}
+use Rattle.std.proofs.Common.{◌≡◌, ℕ, ◌%◌, ◌==◌, ◌&&◌, not, Bool, true, false, List, [], ◌∷◌, Option, Some, None, refl}
 use Rattle.std.specs.Prelude.{option_and_then, if◌then◌else◌}
 use Rattle.std.specs.Option.{option_map}
 use Rattle.prime_field.specs.Modular.{in_table}
-use Rattle.word_model.specs.Scripts.{ShortScript, line_feed, digits_value, after_text, read_number, read_letters, accept_script, read_script}
-use Rattle.plural_one.specs.Readings.{ScriptValues, short_values, read_value, read_word, read_numbers, accept_values, accept_at_end, read_values}
+use Rattle.word_model.specs.Scripts.{ShortScript, digits_value, accept_script, read_script}
+use Rattle.plural_one.specs.Readings.{short_values, accept_at_end, read_values}
 
 -- what is made of a chain's value may be made at its end
 map-chain : {A B C : Type 0} (f : B → C) (g : A → Option B) (o : Option A)

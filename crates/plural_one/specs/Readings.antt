@@ -1,8 +1,8 @@
 -- What the program keeps of a script, and how it reads it, step by step.
-use Rattle.std.specs.Prelude.{◌≡◌, ℕ, ◌%◌, ◌==◌, ◌&&◌, not, List, [], ◌∷◌, ◌++◌, map, Option, Some, None, codes, if◌then◌else◌, option_and_then}
+use Rattle.std.specs.Prelude.{◌≡◌, ℕ, ◌%◌, ◌==◌, ◌&&◌, ◌≤◌, not, length, List, [], ◌∷◌, ◌++◌, map, Option, Some, None, codes, if◌then◌else◌, option_and_then}
 use Rattle.std.specs.Option.{option_map}
 use Rattle.prime_field.specs.Modular.{in_table}
-use Rattle.word_model.specs.Words.{Word}
+use Rattle.word_model.specs.Words.{Word, IsWord}
 use Rattle.word_model.specs.Scripts.{ShortScript, line_feed, digits_value, is_letter, letter_number, after_text, read_number, read_letters}
 use Rattle.plural_one.specs.declared.script.Numbers.{Numbers}
 use Rattle.plural_one.specs.declared.script.Script.{Script}
@@ -25,6 +25,12 @@ kept_values s = record {
   numbers = record { characteristic = s.field; factor = s.factor; constant = s.constant };
   word = s.letters.items;
 }
+
+-- a word of 1 to 64 letters
+pub record IsScriptWord (w : Word) : Type 0 where
+  pub letters : IsWord 2 w
+  pub some : 1 ≤ length w
+  pub few : length w ≤ 64
 
 -- A reader with these bytes answered this and has those bytes left: the value that is read with the bytes behind it,
 -- or nothing where nothing is read.

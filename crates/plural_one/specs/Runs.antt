@@ -2,7 +2,7 @@
 use Rattle.std.specs.Prelude.{◌≡◌, ℕ, ◌≤◌, List, [], ◌∷◌, length, take, Option}
 use Rattle.plural_io.specs.Faults.{Rose}
 use Rattle.plural_io.specs.Reads.{in_front, behind_all, NoneLeft}
-use Rattle.word_model.specs.Answers.{Answer, answer_of, most_bytes}
+use Rattle.word_model.specs.Answers.{answer_of, most_bytes}
 
 -- what is seen of a source: the bytes left, where it tells them, and the count of its faults
 pub record SourceSeen : Type 0 where

@@ -1,10 +1,10 @@
 //! Reading a script.
 
-ghost use Rattle.std.specs.Prelude.{◌≡◌, ◌≤◌, ℕ, length, true, codes, IfOk, MatchOption, IfNone, ◌==◌, ◌↔◌, IsTrue, []};
+ghost use Rattle.std.specs.Prelude.{◌≡◌, ◌≤◌, ℕ, length, true, codes, IfOk, MatchOption, IfNone, IfSome, ◌==◌, ◌↔◌, IsTrue, []};
 ghost use Rattle.std.specs.List.{list_all, prefix_len};
 ghost use Rattle.std.specs.Option.{option_map};
 ghost use Rattle.word_model.specs.Scripts.{is_digit, digits_value, after_text, read_script};
-ghost use Rattle.plural_one.specs.Readings.{Reads, read_value, read_numbers, read_letter, read_word, accept_values, read_values, short_values, kept_values};
+ghost use Rattle.plural_one.specs.Readings.{Reads, read_value, read_numbers, read_letter, read_word, accept_values, read_values, short_values, kept_values, IsScriptWord};
 
 use prime_field::Field;
 use std::alloc::{AllocError, Global};
@@ -145,8 +145,9 @@ impl<'a> Reader<'a> {
 
 /// The script that these bytes are, or None where they are no script of the form that is accepted.
 pub fn read(alloc: Global, bytes: &[u8]) -> Result<Option<Script>, AllocError>
-    ensures { IfOk result (λ script.
+    ensures values { IfOk result (λ script.
         option_map kept_values script ≡ option_map short_values (read_script bytes.now)) }
+    ensures word { IfOk result (λ script. IfSome script (λ s. IsScriptWord s.letters.items)) }
 {
     Reader { bytes }.script(alloc)
 }

@@ -7,8 +7,8 @@ use Rattle.plural_one.proofs.text.polynomial_text.Given as goal
 abbrev pub invariant-loop-term : goal.invariant-loop-term
 invariant-loop-term l = record {
   written :
-    string_bytes l.text ++ later_texts l.field (map (λ name. name.now) l.names) (pairs_of (drop l.term-index l.later))
-    ≡ polynomial_text l.field (map (λ name. name.now) l.names) l.f;
+      string_bytes l.text ++ later_texts l.field (map (λ name. name.now) l.names) (pairs_of (drop l.term-index l.later))
+      ≡ polynomial_text l.field (map (λ name. name.now) l.names) l.f;
   numbers : HasNumbers l.field (pairs_of (drop l.term-index l.later));
   vars : HasVars (length l.names) (pairs_of (drop l.term-index l.later));
 }

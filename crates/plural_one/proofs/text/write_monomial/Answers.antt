@@ -1,8 +1,8 @@
-use Rattle.std.proofs.Common.{◌≡◌, ◌<◌, ◌++◌, map, length, string_bytes, ℕ, ◌+◌, ◌-◌, true, false, List, [], ◌∷◌, get_or, arith, ap, sym, ◌∙◌, refl, lit<}
+use Rattle.std.proofs.Common.{◌≡◌, ◌<◌, ◌++◌, map, length, string_bytes, ℕ, ◌+◌, ◌-◌, List, [], get_or, arith, ap, sym, ◌∙◌, refl, lit<}
 use Rattle.std.proofs.lemmas.Str.{encode_ascii}
 use Rattle.std.proofs.lemmas.List.{length-map, get_or-map}
 use Rattle.word_model.specs.Texts.{power_text, monomial_text}
-use Rattle.plural_one.proofs.Monomials.{powers_behind, powers_from, power_skipped, power_next, first_written, next_written}
+use Rattle.plural_one.proofs.Monomials.{powers_from, power_skipped, power_next, first_written, next_written}
 use Rattle.plural_one.proofs.text.write_monomial.Goals as goal
 
 pub loop-variable-preserved : goal.loop-variable-preserved
@@ -21,16 +21,16 @@ loop-variable-preserved c =
     let before = c.loop-variable.invariant in
     elim c.if-exponent-gt0.branch [
       | goal.then-exponent-gt0+in_ok-write_power w ↦
-        let next = power_next names c.args.mono.now v c.get-exponent.result named there is w.if-exponent-gt0.true in
-        let written = w.in_ok-write_power.ensures in
-        let name = get_or-map (λ name. name.now) c.args.names.now v (record { ref_ptr = (0, 0); now = [] }) [] (omega arith) in
-        elim w.if-not-is_first.branch [
-          | goal.then-not-is_first+in_ok-push w' ↦
-            rw (w.text-is, w.is_first-is) (next_written text (string_bytes w.write_power.new.text) power whole powers (written ∙ rw (w'.text-is, w'.in_ok-push.ensures.bytes, encode_ascii 42 (lit< tt), name) refl) (rw (w'.if-not-is_first.true, next) at before))
-          | goal.else-not-is_first w' ↦
-            rw (w.text-is, w.is_first-is) (first_written text (string_bytes w.write_power.new.text) power whole powers (written ∙ rw (w'.text-is, name) refl) (rw (w'.if-not-is_first.false, next) at before))
-        ]
+          let next = power_next names c.args.mono.now v c.get-exponent.result named there is w.if-exponent-gt0.true in
+          let written = w.in_ok-write_power.ensures in
+          let name = get_or-map (λ name. name.now) c.args.names.now v (record { ref_ptr = (0, 0); now = [] }) [] (omega arith) in
+          elim w.if-not-is_first.branch [
+            | goal.then-not-is_first+in_ok-push w' ↦
+                rw (w.text-is, w.is_first-is) (next_written text (string_bytes w.write_power.new.text) power whole powers (written ∙ rw (w'.text-is, w'.in_ok-push.ensures.bytes, encode_ascii 42 (lit< tt), name) refl) (rw (w'.if-not-is_first.true, next) at before))
+            | goal.else-not-is_first w' ↦
+                rw (w.text-is, w.is_first-is) (first_written text (string_bytes w.write_power.new.text) power whole powers (written ∙ rw (w'.text-is, name) refl) (rw (w'.if-not-is_first.false, next) at before))
+          ]
       | goal.else-exponent-gt0 w ↦
-        let none : get_or c.args.mono.now v 0 ≡ 0 = is ∙ omega arith in
-        rw (w.text-is, w.is_first-is, sym (power_skipped names c.args.mono.now v named there none)) before
+          let none : get_or c.args.mono.now v 0 ≡ 0 = is ∙ omega arith in
+          rw (w.text-is, w.is_first-is, sym (power_skipped names c.args.mono.now v named there none)) before
     ]

@@ -12,7 +12,7 @@ use Rattle.std.proofs.lemmas.List.Sums.{sum_by-cons, sum_by-take-drop, get_or-le
 use Rattle.std.proofs.lemmas.List.Folds.{sum_by-replicate}
 use Rattle.monomials.specs.Monomials.{zip_with, divides, variable}
 use Rattle.monomials.specs.declared.expo.Expo.TheInside.{Inside}
-use Rattle.monomials.specs.Padded.{IsPadded, exponents, padded, padded-exponents, drop-places, zeros}
+use Rattle.monomials.specs.Padded.{IsPadded, exponents, padded, padded-exponents, length-exponents, drop-places, zeros}
 
 module _ (f : ℕ → ℕ → ℕ) where
   pub length-zip_with : (xs ys : List ℕ) → length xs ≡ length ys → length (zip_with f xs ys) ≡ length xs
@@ -105,9 +105,6 @@ sum-zeros n = omega (arith, sum_by-replicate (λ x. x) n 0)
 pub sum-exponents : (e : Inside) → IsPadded e → sum (exponents e) ≡ sum e.exps
 sum-exponents e h =
     omega (arith, sum_by-take-drop (λ x. x) e.exps e.len, ap sum (drop-places e h), sum-zeros (16 - e.len))
-
-pub length-exponents : (e : Inside) → IsPadded e → length (exponents e) ≡ e.len
-length-exponents e h = length-take-le e.len e.exps (omega (arith, h.places, h.fits))
 
 -- a place is an exponent, or zero past the exponents
 pub get_or-exponents : (e : Inside) (k : ℕ) → IsPadded e → get_or (exponents e) k 0 ≡ get_or e.exps k 0

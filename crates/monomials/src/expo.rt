@@ -2,8 +2,8 @@
 
 ghost use Rattle.std.specs.Prelude.{◌≡◌, ◌+◌, ◌-◌, ◌≤◌, ◌<◌, ◌↔◌, IsTrue, nat_eq, length, sum, take, slice_index};
 ghost use Rattle.std.specs.Cmp.Lexicographic.{pointwise};
-ghost use Rattle.std.specs.Cmp.Rules.{comparing};
-ghost use Rattle.std.proofs.Common.{rules};
+ghost use Rattle.std.specs.Cmp.{partial_equiv_from_equiv};
+ghost use Rattle.std.proofs.lemmas.Cmp.{nat_list_eq_equiv};
 ghost use Rattle.monomials.specs.Monomials.{degree, plus, minus, lcm, divides, one, variable};
 ghost use Rattle.monomials.specs.Rows.{weighted};
 
@@ -36,7 +36,7 @@ impl Model for Expo {
 impl PartialEq for Expo {
     ghost eq = { pointwise nat_eq };
 
-    ghost laws = { Prim.search (comparing, rules) };
+    ghost laws = { partial_equiv_from_equiv nat_list_eq_equiv };
 
     fn eq(&self, other: &Expo) -> bool
         ensures eq { result ≡ pointwise nat_eq self.now other.now }

@@ -1,7 +1,8 @@
 use Rattle.std.proofs.Common.{ℕ, ◌≡◌, ◌≤◌, ◌*◌, ◌∙◌, sym, ap, sum, get_or, length, arith}
 use Rattle.std.proofs.lemmas.List.{take_all}
 use Rattle.monomials.specs.Monomials.{zip_with}
-use Rattle.monomials.proofs.Exponents.{length-zip_with, length-exponents}
+use Rattle.monomials.specs.Padded.{length-exponents}
+use Rattle.monomials.proofs.Exponents.{length-zip_with}
 use Rattle.monomials.proofs.RowValues.{weighted_step, weighted_fits, weighted-exponents}
 use Rattle.monomials.proofs.expo.Expo.weighted.Goals as goal
 

@@ -14,12 +14,16 @@ use crate::text::polynomial_text;
 use plural_io::{ReadAllFault, Sink, Source, read_all, write_all_of};
 use std::alloc::{AllocError, Global};
 
-// The statuses of runs that did not get to answer.
+#[cfg(test)]
+mod tests;
+
+// The statuses of runs that wrote no whole answer.
 const READ_FAILED: u8 = 5;
 
 const WRITE_FAILED: u8 = 6;
 
-const NO_MEMORY: u8 = 7;
+/// The status where memory was wanting.
+pub const NO_MEMORY: u8 = 7;
 
 const WORDS: &[u8] = b"? Words, expected [--pairs N] [--make K]\n";
 

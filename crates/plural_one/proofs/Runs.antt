@@ -1,12 +1,17 @@
 -- How a run ends.
 use Rattle.std.proofs.Common.{◌≡◌, ℕ, suc, ◌<◌, ◌≤◌, true, false, List, [], ◌∷◌, map, take, length, ◌==◌, refl, ◌∙◌, ap, arith}
+use Rattle.std.specs.Prelude.{IfOk}
 use Rattle.std.proofs.lemmas.Bool.{lt-ltb, le-ltb, ne_eqb, true≢false}
 use Rattle.plural_io.specs.Faults.{Rose}
 use Rattle.plural_io.specs.Reads.{in_front, behind_all, NoneLeft}
 use Rattle.word_model.specs.Scripts.{read_script}
 use Rattle.word_model.specs.Answers.{Answer, answer_of, script_answer, most_bytes}
-use Rattle.plural_one.specs.Replies.{given, Answers}
-use Rattle.plural_one.specs.Runs.{SourceSeen, SinkSeen, IsUndisturbed, IsRun, whole, write_failed}
+use Rattle.plural_io.specs.declared.reading.ReadAllFault.{ReadAllFault}
+use Rattle.plural_io.specs.declared.reading.ReadAllFault.TheVariants.{Failed, TooLong as LongSource, Memory}
+use Rattle.plural_one.specs.Replies.{given, stopped_status, fault_reply, Answers}
+use Rattle.plural_one.specs.declared.run.Stopped.{Stopped}
+use Rattle.plural_one.specs.declared.run.Stopped.TheVariants.{Read, Memory as NoMemory}
+use Rattle.plural_one.specs.Runs.{SourceSeen, SinkSeen, IsUndisturbed, IsRun, whole, write_failed, read_failed, no_memory, undisturbed}
 use Rattle.plural_one.specs.declared.run.Reply.{Reply}
 use Rattle.plural_one.specs.declared.run.Reply.TheVariants.{Words, TooLong}
 
@@ -55,3 +60,25 @@ module _ (words : List (List ℕ)) (source source' : SourceSeen) (sink sink' : S
       → IsRun words source source' sink sink' 6
   text_cut n rose held =
       write_failed answers.bytes n answers.read rose (held ∙ ap (λ (a : Answer). behind_all sink.held (take n a.text)) answers.answer)
+
+-- too many bytes are the one fault that is answered
+pub fault_answered : {X : Type 0} (f : X → List ℕ) (words : List X) (source source' : SourceSeen) (fault : ReadAllFault) → true ≡ (length words == 0)
+    → (fault ≡ LongSource → (bytes : List ℕ) × (most_bytes < length bytes) × (source.left ≡ in_front bytes source'.left))
+    → IfOk (fault_reply fault) (Answers (map f words) source source')
+fault_answered f words source source' Failed none long = tt
+fault_answered f words source source' LongSource none long =
+    let read = long refl in too_long_refused f words source source' read.0 none read.1 read.2
+fault_answered f words source source' Memory none long = tt
+
+module _ (words : List (List ℕ)) (source source' : SourceSeen) (sink : SinkSeen) where
+  -- a run that stopped before its answer
+  pub run_stopped : (stopped : Stopped) → (stopped ≡ Read → (words ≡ []) × Rose source.faults source'.faults)
+      → IsRun words source source' sink sink (stopped_status stopped)
+  run_stopped Read failed = let fault = failed refl in read_failed fault.0 fault.1 refl
+  run_stopped NoMemory failed = undisturbed 7 (no_memory refl)
+
+  -- where no read failed, memory was wanting
+  pub memory_wanting : (stopped : Stopped) → (stopped ≡ Read → Rose source.faults source'.faults) → (Rose source.faults source'.faults → ⊥)
+      → IsUndisturbed words source source' sink sink (stopped_status stopped)
+  memory_wanting Read failed none = absurd (none (failed refl))
+  memory_wanting NoMemory failed none = no_memory refl

@@ -1,5 +1,5 @@
 -- The program's replies.
-use Rattle.std.specs.Prelude.{◌≡◌, ℕ, List, string_bytes, codes}
+use Rattle.std.specs.Prelude.{◌≡◌, ℕ, List, string_bytes, codes, Result, Ok, Err}
 use Rattle.word_model.specs.Words.{Algebra}
 use Rattle.word_model.specs.Answers.{Answer, answer_of, line, script_names}
 use Rattle.word_model.specs.Products.{letters_product}
@@ -7,6 +7,10 @@ use Rattle.word_model.specs.Scripts.{two_variables}
 use Rattle.word_model.specs.Texts.{polynomial_text}
 use Rattle.plural_one.specs.Readings.{ScriptValues}
 use Rattle.plural_one.specs.Runs.{SourceSeen, HasRead}
+use Rattle.plural_io.specs.declared.reading.ReadAllFault.{ReadAllFault}
+use Rattle.plural_io.specs.declared.reading.ReadAllFault.TheVariants.{Failed, TooLong as LongSource, Memory}
+use Rattle.plural_one.specs.declared.run.Stopped.{Stopped}
+use Rattle.plural_one.specs.declared.run.Stopped.TheVariants.{Read, Memory as NoMemory}
 use Rattle.plural_one.specs.declared.run.Reply.{Reply}
 use Rattle.plural_one.specs.declared.run.Reply.TheVariants.{Words, TooLong, Form, Product}
 
@@ -16,6 +20,17 @@ given Words = record { text = line (codes "? Words, expected [--pairs N] [--make
 given TooLong = record { text = line (codes "? TooLong"); status = 1 }
 given Form = record { text = line (codes "? Form"); status = 1 }
 given (Product text) = record { text = string_bytes text; status = 0 }
+
+-- the status of a run that stopped before its answer
+abbrev pub stopped_status : Stopped → ℕ
+stopped_status Read = 5
+stopped_status NoMemory = 7
+
+-- what is replied where the source was not read to its end
+abbrev pub fault_reply : ReadAllFault → Result Reply Stopped
+fault_reply Failed = Err Read
+fault_reply LongSource = Ok TooLong
+fault_reply Memory = Err NoMemory
 
 -- the line of the product that a script's values ask for
 abbrev pub values_text : ScriptValues → List ℕ

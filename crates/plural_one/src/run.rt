@@ -5,7 +5,7 @@ ghost use Rattle.plural_io.specs.Faults.{Rose};
 ghost use Rattle.word_model.specs.Answers.{script_answer};
 ghost use Rattle.word_model.specs.Scripts.{read_script};
 ghost use Rattle.plural_one.specs.Readings.{IsScriptWord, kept_values};
-ghost use Rattle.plural_one.specs.Replies.{given, values_text, Answers};
+ghost use Rattle.plural_one.specs.Replies.{given, stopped_status, fault_reply, values_text, Answers};
 ghost use Rattle.plural_one.specs.Runs.{IsRun, IsUndisturbed};
 
 use crate::product::TwoVariables;
@@ -68,10 +68,21 @@ impl Reply {
 }
 
 /// Why there is no answer.
-#[derive(Drop)]
+#[derive(Clone, Copy)]
 enum Stopped {
     Read,
     Memory,
+}
+
+impl Stopped {
+    fn status(self) -> u8
+        ensures { result ≡ stopped_status self }
+    {
+        match self {
+            Stopped::Read => READ_FAILED,
+            Stopped::Memory => NO_MEMORY,
+        }
+    }
 }
 
 impl From<AllocError> for Stopped {
@@ -114,8 +125,7 @@ pub fn run_one<S: Source, K: Sink>(
             Ok(()) => reply.status(),
             Err(_) => WRITE_FAILED,
         },
-        Err(Stopped::Read) => READ_FAILED,
-        Err(Stopped::Memory) => NO_MEMORY,
+        Err(stopped) => stopped.status(),
     }
 }
 
@@ -132,9 +142,18 @@ fn reply_to<S: Source>(alloc: Global, words: &[String], source: &mut S) -> Resul
     }
     match read_all(alloc, source) {
         Ok(bytes) => Ok(reply_to_script(alloc, &bytes)?),
-        Err(ReadAllFault::TooLong) => Ok(Reply::TooLong),
-        Err(ReadAllFault::Failed) => Err(Stopped::Read),
-        Err(ReadAllFault::Memory) => Err(Stopped::Memory),
+        Err(fault) => reply_to_fault(fault),
+    }
+}
+
+// The reply where the source was not read to its end.
+fn reply_to_fault(fault: ReadAllFault) -> Result<Reply, Stopped>
+    ensures { result ≡ fault_reply fault }
+{
+    match fault {
+        ReadAllFault::Failed => Err(Stopped::Read),
+        ReadAllFault::TooLong => Ok(Reply::TooLong),
+        ReadAllFault::Memory => Err(Stopped::Memory),
     }
 }
 

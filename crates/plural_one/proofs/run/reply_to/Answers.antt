@@ -1,7 +1,7 @@
 use Rattle.std.proofs.Common.{Err, string_bytes, ◌∙◌, ap}
 use Rattle.word_model.specs.Scripts.{read_script}
 use Rattle.word_model.specs.Answers.{script_answer}
-use Rattle.plural_one.proofs.Runs.{words_refused, too_long_refused, bytes_answered}
+use Rattle.plural_one.proofs.Runs.{words_refused, fault_answered, bytes_answered}
 use Rattle.plural_one.proofs.run.reply_to.Goals as goal
 
 pub returns-then-not-is_empty-clause-answer : goal.returns-then-not-is_empty-clause-answer
@@ -13,7 +13,6 @@ returns-in_ok-reply_to_script-in-Ok-clause-answer g c =
     bytes_answered string_bytes c.args.words.now _ _ c.in-Ok.bytes.items c.in_ok-reply_to_script-in-Ok.field-0 c.if-not-is_empty.ensures read.2 read.0 read.1
     (c.in_ok-reply_to_script-in-Ok.ensures ∙ ap (λ z. script_answer (read_script z)) c.deref.ensures.value)
 
-pub returns-in-Err-TooLong-clause-answer : goal.returns-in-Err-TooLong-clause-answer
-returns-in-Err-TooLong-clause-answer g c =
-    let long = c.in-Err-TooLong.ensures.too_long (ap Err c.in-Err-TooLong.field-0-is) in
-    too_long_refused string_bytes c.args.words.now _ _ long.0 c.if-not-is_empty.ensures long.1 long.2
+pub returns-in-Err-clause-answer : goal.returns-in-Err-clause-answer
+returns-in-Err-clause-answer g c =
+    rw c.reply_to_fault.ensures (fault_answered string_bytes c.args.words.now _ _ c.in-Err.fault c.if-not-is_empty.ensures (λ e. c.in-Err.ensures.too_long (ap Err e)))

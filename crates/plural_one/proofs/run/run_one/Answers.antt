@@ -1,32 +1,29 @@
-use Rattle.std.proofs.Common.{Err, map, take, string_bytes, refl, ◌∙◌, ap}
+use Rattle.std.proofs.Common.{Err, map, take, string_bytes, ◌∙◌, ap}
 use Rattle.plural_io.specs.Reads.{behind_all}
-use Rattle.plural_one.specs.Runs.{undisturbed, no_memory, read_failed}
-use Rattle.plural_one.proofs.Runs.{text_written, text_cut}
+use Rattle.plural_one.specs.Runs.{undisturbed}
+use Rattle.plural_one.proofs.Runs.{text_written, text_cut, run_stopped, memory_wanting}
 use Rattle.plural_one.proofs.run.run_one.Goals as goal
 
 pub returns-in-Ok-write_all_of-clause-completes : goal.returns-in-Ok-write_all_of-clause-completes
 returns-in-Ok-write_all_of-clause-completes g c source sink =
-    text_written _ _ _ _ _ c.in-Ok.reply c.in-Ok.ensures.answer c.status.result
-    (c.in-Ok-write_all_of.ensures.ok ∙ ap (λ z. behind_all (g.K.Sink.held c.args.sink.now) z) c.text.ensures) c.status.ensures
+    let held = c.in-Ok-write_all_of.ensures.ok ∙ ap (behind_all (g.K.Sink.held c.args.sink.now)) c.text.ensures in
+    text_written _ _ _ _ _ c.in-Ok.reply c.in-Ok.ensures.answer c.status.result held c.status.ensures
 
 pub returns-in-Ok-write_all_of-clause-run : goal.returns-in-Ok-write_all_of-clause-run
 returns-in-Ok-write_all_of-clause-run g c =
-    undisturbed c.status.result (text_written _ _ _ _ _ c.in-Ok.reply c.in-Ok.ensures.answer c.status.result
-    (c.in-Ok-write_all_of.ensures.ok ∙ ap (λ z. behind_all (g.K.Sink.held c.args.sink.now) z) c.text.ensures) c.status.ensures)
+    let held = c.in-Ok-write_all_of.ensures.ok ∙ ap (behind_all (g.K.Sink.held c.args.sink.now)) c.text.ensures in
+    undisturbed c.status.result (text_written _ _ _ _ _ c.in-Ok.reply c.in-Ok.ensures.answer c.status.result held c.status.ensures)
 
 pub returns-in-Ok-clause-run : goal.returns-in-Ok-clause-run
 returns-in-Ok-clause-run g c =
-    let cut = c.in-Err.ensures.prefix in
-    text_cut _ _ _ _ _ c.in-Ok.reply c.in-Ok.ensures.answer cut.0 c.in-Err.ensures.failed
-    (cut.2 ∙ ap (λ z. behind_all (g.K.Sink.held c.args.sink.now) (take cut.0 z)) c.text.ensures)
-
-pub returns-in-Err-Read-clause-run : goal.returns-in-Err-Read-clause-run
-returns-in-Err-Read-clause-run g c =
-    let failed = c.in-Err-Read.ensures.read (ap Err c.in-Err-Read.field-0-is) in
-    read_failed (ap (map string_bytes) failed.0) failed.1 refl
+    let cut = c.in-Err-write_all_of.ensures.prefix in
+    let held = cut.2 ∙ ap (λ z. behind_all (g.K.Sink.held c.args.sink.now) (take cut.0 z)) c.text.ensures in
+    text_cut _ _ _ _ _ c.in-Ok.reply c.in-Ok.ensures.answer cut.0 c.in-Err-write_all_of.ensures.failed held
 
 pub returns-clause-run : goal.returns-clause-run
-returns-clause-run g c = undisturbed 7 (no_memory refl)
+returns-clause-run g c =
+    rw c.status-in-Err.ensures (run_stopped _ _ _ _ c.in-Err.stopped (λ e. let failed = c.in-Err.ensures.read (ap Err e) in (ap (map string_bytes) failed.0, failed.1)))
 
 pub returns-clause-completes : goal.returns-clause-completes
-returns-clause-completes g c source sink = no_memory refl
+returns-clause-completes g c source sink =
+    rw c.status-in-Err.ensures (memory_wanting _ _ _ _ c.in-Err.stopped (λ e. (c.in-Err.ensures.read (ap Err e)).1) source)

@@ -5,3 +5,7 @@ pub mod Values
 pub mod Monomials
 pub mod Scripted
 pub mod Runs
+mod ProductWords
+mod ProductSums
+mod ProductRewriting
+mod ProductLetters

@@ -1,14 +1,15 @@
 -- Normal forms and products are polynomials, and what their terms weigh.
-use Rattle.std.proofs.Common.{◌≡◌, ℕ, zero, suc, ◌<◌, ◌≤◌, List, [], ◌∷◌, ◌++◌, length, Option, Some, None, ap, ◌∙◌, arith}
+use Rattle.std.proofs.Common.{◌≡◌, ℕ, zero, suc, ◌<◌, ◌≤◌, List, [], ◌∷◌, ◌++◌, length, map, Option, Some, None, sym, ap, ◌∙◌, arith}
 use Rattle.monomials.specs.Monomials.{Monomial}
 use Rattle.monomials.specs.Orders.{order_cmp}
 use Rattle.monomials.specs.Polynomials.{Polynomial, Each, HasVars, IsPolynomial, sum_over}
 use Rattle.monomials.proofs.Modulo.{Same, same_refl}
-use Rattle.monomials.proofs.Weights.{weigh, weigh_alike, weigh_equal, weigh-sum_over}
-use Rattle.monomials.proofs.OrderLaws.{order_cmp_tied}
+use Rattle.monomials.proofs.Weights.{weigh, weigh_alike, weigh_equal, weigh-map_key, weigh-sum_over}
+use Rattle.monomials.proofs.Canonical.{same_poly}
+use Rattle.monomials.proofs.OrderLaws.{order_cmp_total, order_cmp_tied}
 use Rattle.monomials.proofs.Operations.{IsPolynomial-sum_over}
 use Rattle.word_model.specs.Words.{Algebra, Word, WordSum, IsWord, sorted_word, Descent, leftmost_descent, rewritten, rewriting_step, normal_form_within, normal_form, enough, word_value, IsPaired}
-use Rattle.word_model.specs.Products.{product, variable_polynomial}
+use Rattle.word_model.specs.Products.{product, variable_polynomial, with_letter}
 use Rattle.word_model.proofs.Letters.{length-counts_from, sorted_word-variable}
 use Rattle.word_model.proofs.Termination.{normal_form-descent}
 
@@ -80,9 +81,22 @@ module _ (A : Algebra) (φ : Monomial → ℕ) where
       weigh-sum_over (order_cmp A.order.rows) (order_cmp_tied A.order.rows) A.p φ (λ a. sum_over (order_cmp A.order.rows) A.p (λ b. normal_form A (sorted_word a ++ sorted_word b)) g) f
       ∙ weigh_alike A.p _ _ (λ a. weigh-sum_over (order_cmp A.order.rows) (order_cmp_tied A.order.rows) A.p φ (λ b. normal_form A (sorted_word a ++ sorted_word b)) g) f
 
-  -- the weight of a product by a variable is that of the words with its letter behind them
-  pub weigh-product_variable : (f : Polynomial) (v : ℕ) → 1 ≤ v
-      → Same A.p (weigh φ (product A f (variable_polynomial A v))) (weigh (λ a. word_weight (sorted_word a ++ v ∷ [])) f)
-  weigh-product_variable f v h =
-      weigh-product f (variable_polynomial A v)
-      ∙ same_refl A.p _ _ (weigh_equal _ _ (λ a. omega (arith, ap (λ w. word_weight (sorted_word a ++ w)) (sorted_word-variable A.order.vars v h))) f)
+-- ---- products by a variable
+
+-- polynomials of an algebra that weigh alike are equal
+pub same_weights : (A : Algebra) (f g : Polynomial) → IsPolynomial A.p A.order f → IsPolynomial A.p A.order g
+    → ((φ : Monomial → ℕ) → Same A.p (weigh φ f) (weigh φ g)) → f ≡ g
+same_weights A f g hf hg e = same_poly (order_cmp A.order.rows) (order_cmp_total A.order.rows) (order_cmp_tied A.order.rows) A.p f g hf.canonical hg.canonical e
+
+-- the product by a variable is the value of the words with its letter behind them
+pub product-variable : (A : Algebra) → 1 < A.p → (f : Polynomial) (v : ℕ) → 1 ≤ v → product A f (variable_polynomial A v) ≡ word_value A (with_letter v f)
+product-variable A above_one f v h =
+    same_weights A (product A f (variable_polynomial A v)) (word_value A (with_letter v f))
+    (product_is_polynomial A above_one f (variable_polynomial A v)) (word_value_is_polynomial A above_one (with_letter v f))
+    (λ φ.
+        weigh-product A φ f (variable_polynomial A v)
+        ∙ same_refl A.p _ _ (weigh_equal _ _ (letter φ) f ∙ sym (weigh-map_key (word_weight A φ) (λ m. sorted_word m ++ v ∷ []) f))
+        ∙ sym (weigh-word_value A φ (with_letter v f)))
+  where
+    letter : (φ : Monomial → ℕ) (a : Monomial) → weigh (λ b. word_weight A φ (sorted_word a ++ sorted_word b)) (variable_polynomial A v) ≡ word_weight A φ (sorted_word a ++ v ∷ [])
+    letter φ a = omega (arith, ap (λ w. word_weight A φ (sorted_word a ++ w)) (sorted_word-variable A.order.vars v h))

@@ -49,10 +49,11 @@ inversions-swap (x ∷ u) high low w h = omega (arith, lower_count-swap x u high
 -- ---- the measure
 
 -- the measure of a word among the words of length up to l
-abbrev pub measure : Algebra → ℕ → Word → ℕ
+unfoldable pub measure : Algebra → ℕ → Word → ℕ
 measure A l w = rank A.order.rows A.order.vars l (monomial_of A.order.vars w) * suc (l * l) + inversions w
 
 pub measure_below_enough : (A : Algebra) (w : Word) → measure A (length w) w < enough A.order.vars (length w)
+unfolding measure
 measure_below_enough A w =
     let l : ℕ = length w in
     let a : rank A.order.rows A.order.vars l (monomial_of A.order.vars w) * suc (l * l) ≤ (l + 1) ^ A.order.vars * suc (l * l) =
@@ -62,6 +63,7 @@ measure_below_enough A w =
 -- a smaller monomial makes the measure smaller, whatever the inversions are
 pub measure_falls : (A : Algebra) (l : ℕ) (v w : Word) → length v ≤ l
     → order_cmp A.order.rows (monomial_of A.order.vars v) (monomial_of A.order.vars w) ≡ Less → measure A l v < measure A l w
+unfolding measure
 measure_falls A l v w h e =
     let r : rank A.order.rows A.order.vars l (monomial_of A.order.vars v) < rank A.order.rows A.order.vars l (monomial_of A.order.vars w) =
     rank_falls A.order.rows A.order.vars l (monomial_of A.order.vars v) (monomial_of A.order.vars w) e
@@ -116,6 +118,7 @@ module _ (A : Algebra) where
   -- the word with the two letters swapped
   pub swapped_less : (l : ℕ) (s : Descent) → IsWord A.order.vars (word_of s) → s.low < s.high → length (word_of s) ≤ l
       → IsLess A l (word_of s) (s.before ++ s.low ∷ s.high ∷ s.after)
+  unfolding measure
   swapped_less l s word falls short =
       let back : IsWord A.order.vars (s.high ∷ s.low ∷ s.after) = behind s word in
       let e : rank A.order.rows A.order.vars l (monomial_of A.order.vars (s.before ++ s.low ∷ s.high ∷ s.after)) ≡ rank A.order.rows A.order.vars l (monomial_of A.order.vars (word_of s)) =

@@ -1,9 +1,9 @@
 -- Products in a G-algebra.
-use Rattle.std.specs.Prelude.{ℕ, [], ◌∷◌, ◌++◌}
+use Rattle.std.specs.Prelude.{ℕ, [], ◌∷◌, ◌++◌, map}
 use Rattle.monomials.specs.Monomials.{variable, one}
 use Rattle.monomials.specs.Orders.{order_cmp}
 use Rattle.monomials.specs.Polynomials.{Polynomial, sum_over}
-use Rattle.word_model.specs.Words.{Algebra, Word, normal_form, sorted_word}
+use Rattle.word_model.specs.Words.{Algebra, Word, WordSum, normal_form, sorted_word}
 
 -- The product: over the terms of f and of g, the product of their two numbers times
 -- the normal form of their two sorted words put one after the other.
@@ -25,3 +25,7 @@ times_letters A f (v ∷ w) = times_letters A (product A f (variable_polynomial 
 abbrev pub letters_product : Algebra → Word → Polynomial
 letters_product A [] = (1, one A.order.vars) ∷ []
 letters_product A (v ∷ w) = times_letters A (variable_polynomial A v) w
+
+-- the sorted words of the terms of f, each with the letter v behind it
+abbrev pub with_letter : ℕ → Polynomial → WordSum
+with_letter v f = map (λ t. (t.0, sorted_word t.1 ++ v ∷ [])) f

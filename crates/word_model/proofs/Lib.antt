@@ -19,3 +19,4 @@ pub mod Overlaps
 pub mod Confluence
 pub mod Associativity
 mod Rows
+pub mod ReadingLaws

@@ -1,0 +1,86 @@
+-- What the program keeps of a script, and how it reads it, step by step.
+use Rattle.std.specs.Prelude.{◌≡◌, ℕ, ◌%◌, ◌==◌, ◌&&◌, ◌≤◌, not, length, List, [], ◌∷◌, ◌++◌, map, Option, Some, None, codes, if◌then◌else◌, option_and_then}
+use Rattle.std.specs.Option.{option_map}
+use Rattle.prime_field.specs.Modular.{in_table}
+use Rattle.word_model.specs.Words.{Word, IsWord}
+use Rattle.word_model.specs.Scripts.{ShortScript, line_feed, digits_value, is_letter, letter_number, after_text, read_number, read_letters}
+use Rattle.plural_one.specs.declared.script.Numbers.{Numbers}
+use Rattle.plural_one.specs.declared.script.Script.{Script}
+
+-- a script's numbers and its word
+pub record ScriptValues : Type 0 where
+  pub numbers : Numbers
+  pub word : Word
+
+-- the values of the numbers and of the letters that a script leaves open
+abbrev pub short_values : ShortScript → ScriptValues
+short_values s = record {
+  numbers = record { characteristic = digits_value s.characteristic; factor = digits_value s.factor; constant = digits_value s.constant };
+  word = map letter_number s.letters;
+}
+
+-- what the program keeps
+abbrev pub kept_values : Script → ScriptValues
+kept_values s = record {
+  numbers = record { characteristic = s.field; factor = s.factor; constant = s.constant };
+  word = s.letters.items;
+}
+
+-- a word of 1 to 64 letters
+pub record IsScriptWord (w : Word) : Type 0 where
+  pub letters : IsWord 2 w
+  pub some : 1 ≤ length w
+  pub few : length w ≤ 64
+
+-- A reader with these bytes answered this and has those bytes left: the value that is read with the bytes behind it,
+-- or nothing where nothing is read.
+abbrev pub Reads : {A : Type 0} → Option (A × List ℕ) → Option A → List ℕ → Type 0
+Reads read None rest = read ≡ None
+Reads read (Some a) rest = read ≡ Some (a, rest)
+
+infixl 10 ◌>>=◌
+abbrev pub ◌>>=◌ : {A B : Type 0} → Option A → (A → Option B) → Option B
+o >>= f = option_and_then f o
+
+-- a number's value
+abbrev pub read_value : List ℕ → Option (ℕ × List ℕ)
+read_value bytes = option_map (λ (digits, rest). (digits_value digits, rest)) (read_number bytes)
+
+-- a letter's number
+abbrev pub read_letter : List ℕ → Option (ℕ × List ℕ)
+read_letter [] = None
+read_letter (b ∷ bytes) = if is_letter b then Some (letter_number b, bytes) else None
+
+-- the numbers of at most k letters with `*` between them
+abbrev pub read_word : ℕ → List ℕ → Option (Word × List ℕ)
+read_word k bytes = option_map (λ (letters, rest). (map letter_number letters, rest)) (read_letters k bytes)
+
+-- the three numbers in front of the letters
+abbrev pub read_numbers : List ℕ → Option (Numbers × List ℕ)
+read_numbers bytes = do
+  b0 ← after_text (codes "ring r = ") bytes
+  p ← read_value b0
+  b2 ← after_text (codes ",(x,d),dp;" ++ (line_feed ++ codes "def W = nc_algebra(")) p.1
+  c ← read_value b2
+  b4 ← after_text (codes ",") c.1
+  e ← read_value b4
+  b6 ← after_text (codes "); setring W;" ++ line_feed) e.1
+  Some (record { characteristic = p.0; factor = c.0; constant = e.0 }, b6)
+
+-- the values, if they are accepted
+abbrev pub accept_values : ScriptValues → Option ScriptValues
+accept_values s =
+    if in_table s.numbers.characteristic && not (s.numbers.factor % s.numbers.characteristic == 0) then Some s else None
+
+-- the values, if they are accepted and no byte is left
+abbrev pub accept_at_end : ScriptValues → List ℕ → Option ScriptValues
+accept_at_end s (b ∷ bytes) = None
+accept_at_end s [] = accept_values s
+
+-- the values of a script
+abbrev pub read_values : List ℕ → Option ScriptValues
+read_values bytes = do
+  n ← read_numbers bytes
+  w ← read_word 64 n.1
+  b ← after_text (codes ";" ++ line_feed) w.1
+  accept_at_end (record { numbers = n.0; word = w.0 }) b

@@ -1,0 +1,180 @@
+//! A run of the program.
+
+ghost use Rattle.std.specs.Prelude.{◌≡◌, ◌<◌, ℕ, length, map, string_bytes, IfOk, [], codes};
+ghost use Rattle.plural_io.specs.Faults.{Rose};
+ghost use Rattle.word_model.specs.Answers.{script_answer};
+ghost use Rattle.word_model.specs.Scripts.{read_script};
+ghost use Rattle.plural_one.specs.Readings.{IsScriptWord, kept_values};
+ghost use Rattle.plural_one.specs.Replies.{given, stopped_status, fault_reply, values_text, Answers};
+ghost use Rattle.plural_one.specs.Runs.{IsRun, IsUndisturbed};
+
+use crate::product::TwoVariables;
+use crate::script::{self, Script};
+use crate::text::polynomial_text;
+use plural_io::{ReadAllFault, Sink, Source, read_all, write_all_of};
+use std::alloc::{AllocError, Global};
+
+#[cfg(test)]
+mod tests;
+
+// The statuses of runs that wrote no whole answer.
+const READ_FAILED: u8 = 5;
+
+const WRITE_FAILED: u8 = 6;
+
+/// The status where memory was wanting.
+pub const NO_MEMORY: u8 = 7;
+
+const WORDS: &[u8] = b"? Words, expected [--pairs N] [--make K]\n";
+
+const TOO_LONG: &[u8] = b"? TooLong\n";
+
+const FORM: &[u8] = b"? Form\n";
+
+/// What the program answers.
+#[derive(Drop)]
+enum Reply {
+    /// There are command words.
+    Words,
+    /// There are more bytes than a script may have.
+    TooLong,
+    /// The bytes are no script.
+    Form,
+    /// The line of the product that the script asks for.
+    Product(String),
+}
+
+impl Reply {
+    fn text(&self) -> &[u8]
+        ensures { result.now ≡ (given self.now).text }
+    {
+        match self {
+            Reply::Words => WORDS,
+            Reply::TooLong => TOO_LONG,
+            Reply::Form => FORM,
+            Reply::Product(text) => text.as_bytes(),
+        }
+    }
+
+    fn status(&self) -> u8
+        ensures { result ≡ (given self.now).status }
+    {
+        match self {
+            Reply::Words => 2,
+            Reply::TooLong | Reply::Form => 1,
+            Reply::Product(_) => 0,
+        }
+    }
+}
+
+/// Why there is no answer.
+#[derive(Clone, Copy)]
+enum Stopped {
+    Read,
+    Memory,
+}
+
+impl Stopped {
+    fn status(self) -> u8
+        ensures { result ≡ stopped_status self }
+    {
+        match self {
+            Stopped::Read => READ_FAILED,
+            Stopped::Memory => NO_MEMORY,
+        }
+    }
+}
+
+impl From<AllocError> for Stopped {
+    ghost use Rattle.plural_one.specs.declared.run.Stopped.TheVariants.{Memory};
+
+    ghost from_gives = { λ _ stopped. stopped ≡ Memory };
+
+    fn from(_: AllocError) -> Stopped {
+        Stopped::Memory
+    }
+}
+
+/// Reads a script from the source, writes what it is answered to the sink, and answers the status.
+pub fn run_one<S: Source, K: Sink>(
+    alloc: Global,
+    words: &[String],
+    source: &mut S,
+    sink: &mut K,
+) -> u8
+    ensures run { IsRun (map string_bytes words.now)
+        (record { left = S.left source.old; faults = S.faults source.old })
+        (record { left = S.left source.new; faults = S.faults source.new })
+        (record { held = K.held sink.old; faults = K.faults sink.old })
+        (record { held = K.held sink.new; faults = K.faults sink.new }) result }
+    // Refused words leave the source as it was.
+    ensures untouched { 0 < length words.now → source.new ≡ source.old }
+    ensures read_fault { result ≡ 5 → Rose (S.faults source.old) (S.faults source.new) }
+    ensures write_fault { result ≡ 6 → Rose (K.faults sink.old) (K.faults sink.new) }
+    // Where neither count of faults rose, the whole text was written, or memory was wanting.
+    ensures completes { (Rose (S.faults source.old) (S.faults source.new) → ⊥)
+        → (Rose (K.faults sink.old) (K.faults sink.new) → ⊥)
+        → IsUndisturbed (map string_bytes words.now)
+        (record { left = S.left source.old; faults = S.faults source.old })
+        (record { left = S.left source.new; faults = S.faults source.new })
+        (record { held = K.held sink.old; faults = K.faults sink.old })
+        (record { held = K.held sink.new; faults = K.faults sink.new }) result }
+{
+    match reply_to(alloc, words, source) {
+        Ok(reply) => match write_all_of(sink, reply.text()) {
+            Ok(()) => reply.status(),
+            Err(_) => WRITE_FAILED,
+        },
+        Err(stopped) => stopped.status(),
+    }
+}
+
+// The reply to what the source has left, where there are no command words.
+fn reply_to<S: Source>(alloc: Global, words: &[String], source: &mut S) -> Result<Reply, Stopped>
+    ensures answer { IfOk result (λ reply. Answers (map string_bytes words.now)
+        (record { left = S.left source.old; faults = S.faults source.old })
+        (record { left = S.left source.new; faults = S.faults source.new }) reply) }
+    ensures untouched { 0 < length words.now → source.new ≡ source.old }
+    ensures read { result ≡ Err Stopped.Read → (words.now ≡ []) × Rose (S.faults source.old) (S.faults source.new) }
+{
+    if !words.is_empty() {
+        return Ok(Reply::Words);
+    }
+    match read_all(alloc, source) {
+        Ok(bytes) => Ok(reply_to_script(alloc, &bytes)?),
+        Err(fault) => reply_to_fault(fault),
+    }
+}
+
+// The reply where the source was not read to its end.
+fn reply_to_fault(fault: ReadAllFault) -> Result<Reply, Stopped>
+    ensures { result ≡ fault_reply fault }
+{
+    match fault {
+        ReadAllFault::Failed => Err(Stopped::Read),
+        ReadAllFault::TooLong => Ok(Reply::TooLong),
+        ReadAllFault::Memory => Err(Stopped::Memory),
+    }
+}
+
+// The reply to a script's bytes.
+fn reply_to_script(alloc: Global, bytes: &[u8]) -> Result<Reply, AllocError>
+    ensures { IfOk result (λ reply. given reply ≡ script_answer (read_script bytes.now)) }
+{
+    match script::read(alloc, bytes)? {
+        Some(script) => Ok(Reply::Product(product_line(alloc, &script)?)),
+        None => Ok(Reply::Form),
+    }
+}
+
+// The line of the product that a script asks for.
+fn product_line(alloc: Global, script: &Script) -> Result<String, AllocError>
+    requires { IsScriptWord script.now.letters.items }
+    ensures { IfOk result (λ text. string_bytes text ≡ values_text (kept_values script.now)) }
+{
+    let algebra = TwoVariables::new(alloc, script.field, script.factor, script.constant)?;
+    let product = algebra.letters_product(alloc, &script.letters)?;
+    let mut text = polynomial_text(alloc, script.field, &["x", "d"], &product)?;
+    text.push('\n')?;
+    Ok(text)
+}

@@ -1,0 +1,141 @@
+//! Runs over memory. Texts and statuses are worked by hand from the algebra, or from the form of a script.
+
+ghost use Rattle.std.specs.Prelude.{◌≤◌};
+
+use super::*;
+use plural_io::{MemSink, MemSource};
+use std::process::Abort;
+use std::test::Fail;
+
+const WEYL: &str = "ring r = 7,(x,d),dp;\ndef W = nc_algebra(1,1); setring W;\nd*x;\n";
+
+// The status and the text of a run whose reads and writes move at most `per_call` bytes, and fail at the given calls.
+fn run_over(
+    alloc: Global,
+    words: &[String],
+    script: &[u8],
+    per_call: usize,
+    read_fails: &[u32],
+    write_fails: &[u32],
+) -> Result<(u8, Vec<u8>), AllocError>
+    requires { 1 ≤ per_call }
+{
+    let mut source = MemSource::new(alloc, script, per_call, read_fails)?;
+    let mut sink = MemSink::new(alloc, 4096, per_call, write_fails)?;
+    let status = run_one(alloc, words, &mut source, &mut sink);
+    Ok((status, sink.bytes().to_vec(alloc)?))
+}
+
+// Asserts what a script is answered.
+fn assert_answer(
+    rt: &(impl Abort + AllocGlobal),
+    script: &[u8],
+    status: u8,
+    text: &str,
+) -> Result<(), AllocError> {
+    let (ended, written) = run_over(rt.alloc(), &[], script, 4096, &[], &[])?;
+    assert_eq!(rt; ended, status, "wanted {text}");
+    assert_eq!(rt; written.as_slice(), text.as_bytes(), "wanted {text}");
+    Ok(())
+}
+
+#[test]
+fn answers_products(rt: HostRuntime) -> Result<(), Fail> {
+    let alloc = rt.alloc();
+    for (p, c, e, product, text) in [
+        ("7", "1", "1", "d*x", "x*d+1\n"),
+        ("2", "1", "1", "d*d*x", "x*d^2\n"),
+        ("7", "3", "0", "d*x*x", "2*x^2*d\n"),
+        ("7", "1", "1", "x", "x\n"),
+        ("7", "1", "1", "x*d", "x*d\n"),
+        ("7", "1", "1", "d*d*x", "x*d^2+2*d\n"),
+        ("7", "1", "6", "d*x", "x*d-1\n"),
+        ("7", "6", "0", "d*x", "-x*d\n"),
+        ("7", "3", "3", "d*x", "3*x*d+3\n"),
+        ("7", "4", "4", "d*x", "-3*x*d-3\n"),
+        ("65521", "65520", "32760", "d*x", "-x*d+32760\n"),
+        ("65521", "32761", "65520", "d*x", "-32760*x*d-1\n"),
+        ("000000007", "000000008", "15", "d*x", "x*d+1\n"),
+        ("251", "999999999", "0", "d*x", "-65*x*d\n"),
+    ] {
+        let script = format!(in alloc;
+            "ring r = {p},(x,d),dp;\ndef W = nc_algebra({c},{e}); setring W;\n{product};\n"
+        )?;
+        assert_answer(&rt, script.as_bytes(), 0, text)?;
+    }
+    Ok(())
+}
+
+#[test]
+fn refuses_other_forms(rt: HostRuntime) -> Result<(), Fail> {
+    for script in [
+        "",
+        "ring r = 7,(x,d),dp;\ndef W = nc_algebra(1,1); setring W;\nd*x;",
+        "ring r = 7,(x,d),dp;\r\ndef W = nc_algebra(1,1); setring W;\r\nd*x;\r\n",
+        "ring r = 7,(x,d),dp;\ndef W = nc_algebra(1,1); setring W;\nd*x;\n\n",
+        " ring r = 7,(x,d),dp;\ndef W = nc_algebra(1,1); setring W;\nd*x;\n",
+        "ring r = 7,(x,d),dp;\ndef W = nc_algebra(1, 1); setring W;\nd*x;\n",
+        "ring r = 7,(x,d),dp;\ndef W = nc_algebra(1,1);  setring W;\nd*x;\n",
+        "ring r = 7,(x,d),lp;\ndef W = nc_algebra(1,1); setring W;\nd*x;\n",
+        "ring r = 7,(x,d),dp;\ndef W = nc_algebra(-1,1); setring W;\nd*x;\n",
+        "ring r = ,(x,d),dp;\ndef W = nc_algebra(1,1); setring W;\nd*x;\n",
+        "ring r = 0000000007,(x,d),dp;\ndef W = nc_algebra(1,1); setring W;\nd*x;\n",
+        "ring r = 7,(x,d),dp;\ndef W = nc_algebra(1,0000000001); setring W;\nd*x;\n",
+        "ring r = 9,(x,d),dp;\ndef W = nc_algebra(1,1); setring W;\nd*x;\n",
+        "ring r = 103,(x,d),dp;\ndef W = nc_algebra(1,1); setring W;\nd*x;\n",
+        "ring r = 7,(x,d),dp;\ndef W = nc_algebra(0,1); setring W;\nd*x;\n",
+        "ring r = 7,(x,d),dp;\ndef W = nc_algebra(14,1); setring W;\nd*x;\n",
+        "ring r = 7,(x,d),dp;\ndef W = nc_algebra(1,1); setring W;\n;\n",
+        "ring r = 7,(x,d),dp;\ndef W = nc_algebra(1,1); setring W;\nd*x*;\n",
+        "ring r = 7,(x,d),dp;\ndef W = nc_algebra(1,1); setring W;\ndx;\n",
+        "ring r = 7,(x,d),dp;\ndef W = nc_algebra(1,1); setring W;\nd*y;\n",
+    ] {
+        assert_answer(&rt, script.as_bytes(), 1, "? Form\n")?;
+    }
+    Ok(())
+}
+
+#[test]
+fn takes_64_letters(rt: HostRuntime) -> Result<(), Fail> {
+    let alloc = rt.alloc();
+    let lines = "ring r = 7,(x,d),dp;\ndef W = nc_algebra(1,1); setring W;\n";
+    let letters = "x*".repeat(alloc, 63)?;
+    let most = format!(in alloc; "{lines}{letters}x;\n")?;
+    assert_answer(&rt, most.as_bytes(), 0, "x^64\n")?;
+    let one_more = format!(in alloc; "{lines}{letters}x*x;\n")?;
+    assert_answer(&rt, one_more.as_bytes(), 1, "? Form\n")?;
+    Ok(())
+}
+
+#[test]
+fn refuses_long_scripts(rt: HostRuntime) -> Result<(), Fail> {
+    let most = vec![in rt.alloc(); b' '; 1048576]?;
+    assert_answer(&rt, &most, 1, "? Form\n")?;
+    let one_more = vec![in rt.alloc(); b' '; 1048577]?;
+    assert_answer(&rt, &one_more, 1, "? TooLong\n")?;
+    Ok(())
+}
+
+#[test]
+fn refuses_words(rt: HostRuntime) -> Result<(), Fail> {
+    let words = [String::from_str(rt.alloc(), "x")?];
+    let (status, written) = run_over(rt.alloc(), &words, WEYL.as_bytes(), 4096, &[1], &[])?;
+    assert_eq!(rt; status, 2);
+    assert_eq!(rt;
+        written.as_slice(),
+        b"? Words, expected [--pairs N] [--make K]\n".as_slice()
+    );
+    Ok(())
+}
+
+#[test]
+fn ends_at_faults(rt: HostRuntime) -> Result<(), Fail> {
+    let script = WEYL.as_bytes();
+    let (status, written) = run_over(rt.alloc(), &[], script, 4096, &[1], &[])?;
+    assert_eq!(rt; status, 5);
+    assert!(rt; written.is_empty());
+    let (status, written) = run_over(rt.alloc(), &[], script, 2, &[], &[2])?;
+    assert_eq!(rt; status, 6);
+    assert_eq!(rt; written.as_slice(), b"x*".as_slice());
+    Ok(())
+}

@@ -1,0 +1,269 @@
+-- Reading a script is the inverse of its form: the bytes of an accepted script are read as it,
+-- and bytes that are read as a script are its bytes.
+use Rattle.std.proofs.Common.{◌≡◌, ◌≢◌, ℕ, zero, suc, ◌+◌, ◌%◌, ◌≤◌, ◌==◌, nat_le, ◌&&◌, not, List, [], ◌∷◌, ◌++◌, map, length, take, drop, Bool, true, false, Option, Some, None, codes, refl, sym, ◌∙◌, ap, subst, arith, inl, inr, one-add}
+use Rattle.std.specs.Prelude.{if◌then◌else◌, option_and_then}
+use Rattle.std.specs.List.{join_with_byte, list_all, prefix_len}
+use Rattle.std.proofs.lemmas.Bool.{eqb-true, eq-eqb, eqb-false, ne_eqb, and_parts, and_from, leb-true, le-leb, cases_Bool, not-true}
+use Rattle.std.proofs.lemmas.List.{take-append-drop, take_at, drop_at}
+use Rattle.std.proofs.lemmas.List.Folds.{prefix_len-append, length-prefix_len}
+use Rattle.prime_field.specs.Modular.{in_table}
+use Rattle.word_model.specs.Scripts.{ShortScript, script_bytes, line_feed, is_digit, is_letter, IsNumber, digits_value, IsShortScript, after_text, read_number, with_letter, read_letters, accept_script, read_script}
+
+-- a conditional option that holds a value
+if_some : {X : Type 0} (b : Bool) (o : Option X) (x : X) → (if b then o else None) ≡ Some x → (b ≡ true) × (o ≡ Some x)
+if_some true o x e = (refl, e)
+if_some false o x e = cc
+
+-- what is read: a value and the bytes behind it
+abbrev Read : Type 0
+Read = List ℕ × List ℕ
+
+-- equal readings have equal parts
+some_pair : (r s : Read) → Some r ≡ Some s → (r.0 ≡ s.0) × (r.1 ≡ s.1)
+some_pair r s e = let pairs : r ≡ s = cc in (ap (λ (z : Read). z.0) pairs, ap (λ (z : Read). z.1) pairs)
+
+-- a chain that holds a value: its first step holds one
+and_then_some : {X Y : Type 0} (f : X → Option Y) (o : Option X) (y : Y) → option_and_then f o ≡ Some y
+    → (x : X) × (o ≡ Some x) × (f x ≡ Some y)
+and_then_some f None y e = cc
+and_then_some f (Some x) y e = (x, refl, e)
+
+-- ---- texts
+
+-- a text is read from the front of bytes that begin with it
+pub after_text-append : (text rest : List ℕ) → after_text text (text ++ rest) ≡ Some rest
+after_text-append [] rest = refl
+after_text-append (t ∷ text) rest = rw (eq-eqb t t refl) (after_text-append text rest)
+
+-- a text that was read stood at the front
+pub begins_with_text : (text bytes rest : List ℕ) → after_text text bytes ≡ Some rest → bytes ≡ text ++ rest
+begins_with_text [] bytes rest e = cc
+begins_with_text (t ∷ text) [] rest e = cc
+begins_with_text (t ∷ text) (b ∷ bytes) rest e =
+    let same = if_some (t == b) (after_text text bytes) rest e in
+    let heads : t ≡ b = eqb-true t b same.0 in
+    let tails : bytes ≡ text ++ rest = begins_with_text text bytes rest same.1 in cc
+
+-- ---- numbers
+
+-- the whole of a list passes
+prefix_len-all : {X : Type 0} (p : X → Bool) (xs : List X) → list_all p xs ≡ true → prefix_len p xs ≡ length xs
+prefix_len-all p [] h = refl
+prefix_len-all p (x ∷ xs) h =
+    let both = and_parts (p x) (list_all p xs) h in rw both.0 (ap (λ n. 1 + n) (prefix_len-all p xs both.1) ∙ omega arith)
+
+-- the front that passes, passes
+pub list_all-prefix : {X : Type 0} (p : X → Bool) (xs : List X) → list_all p (take (prefix_len p xs) xs) ≡ true
+list_all-prefix p [] = refl
+list_all-prefix p (x ∷ xs) =
+    elim (cases_Bool (p x)) [
+      | inl passes ↦ rw (passes, one-add) (rw passes (list_all-prefix p xs))
+      | inr fails ↦ rw fails refl
+    ]
+
+-- digits are read up to a byte that is none
+pub read_number-append : (digits : List ℕ) (b : ℕ) (rest : List ℕ) → IsNumber digits → is_digit b ≡ false
+    → read_number (digits ++ b ∷ rest) ≡ Some (digits, b ∷ rest)
+read_number-append digits b rest h none =
+    let run : prefix_len is_digit (digits ++ b ∷ rest) ≡ length digits =
+    prefix_len-append is_digit digits (b ∷ rest) ∙ rw (prefix_len-all is_digit digits h.all_digits, eq-eqb (length digits) (length digits) refl, none) (omega arith) in
+    rw (run, le-leb 1 (length digits) h.some, le-leb (length digits) 9 h.few, take_at digits (b ∷ rest) (length digits) refl, drop_at digits (b ∷ rest) (length digits) refl) refl
+
+-- digits that were read are a number, and stood at the front
+pub begins_with_number : (bytes digits rest : List ℕ) → read_number bytes ≡ Some (digits, rest)
+    → IsNumber digits × (bytes ≡ digits ++ rest)
+begins_with_number bytes digits rest e =
+    let n : ℕ = prefix_len is_digit bytes in
+    let fits = if_some (nat_le 1 n && nat_le n 9) (Some (take n bytes, drop n bytes)) (digits, rest) e in
+    let parts = some_pair (take n bytes, drop n bytes) (digits, rest) fits.1 in
+    let ends = and_parts (nat_le 1 n) (nat_le n 9) fits.0 in
+    let l : length digits ≡ n = ap length (sym parts.0) ∙ length-prefix_len is_digit bytes in (
+      record {
+        some = omega (arith, leb-true 1 n ends.0);
+        few = omega (arith, leb-true n 9 ends.1);
+        all_digits = ap (list_all is_digit) (sym parts.0) ∙ list_all-prefix is_digit bytes;
+      },
+      sym (take-append-drop n bytes) ∙ (ap (λ z. z ++ drop n bytes) parts.0 ∙ ap (λ z. digits ++ z) parts.1),
+    )
+
+-- ---- letters
+
+-- letters with `*` between them
+abbrev pub product_bytes : List ℕ → List ℕ
+product_bytes letters = join_with_byte 42 (map (λ b. b ∷ []) letters)
+
+-- letters are read up to a byte that is not `*`
+pub read_letters-append : (k : ℕ) (letters : List ℕ) (b : ℕ) (rest : List ℕ) → 1 ≤ length letters → length letters ≤ k
+    → list_all is_letter letters ≡ true → b == 42 ≡ false
+    → read_letters k (product_bytes letters ++ b ∷ rest) ≡ Some (letters, b ∷ rest)
+read_letters-append k [] b rest some few all other = absurd (omega arith)
+read_letters-append zero (x ∷ letters) b rest some few all other = absurd (omega arith)
+read_letters-append (suc k) (x ∷ []) b rest some few all other =
+    let letter = and_parts (is_letter x) true all in rw (letter.0, other) refl
+read_letters-append (suc k) (x ∷ (y ∷ letters)) b rest some few all other =
+    let letter = and_parts (is_letter x) (list_all is_letter (y ∷ letters)) all in
+    rw (letter.0, read_letters-append k (y ∷ letters) b rest (omega arith) (omega arith) letter.1 other) refl
+
+-- 1 to k letters stand at the front, with `*` between them
+pub record IsProduct (k : ℕ) (bytes letters rest : List ℕ) : Type 0 where
+  pub some : 1 ≤ length letters
+  pub few : length letters ≤ k
+  pub all_letters : list_all is_letter letters ≡ true
+  pub front : bytes ≡ product_bytes letters ++ rest
+
+-- one letter alone
+one_letter : (k b : ℕ) (bytes : List ℕ) (r : Read) → is_letter b ≡ true → ◌≡◌ {A = Option Read} (Some (b ∷ [], bytes)) (Some r)
+    → IsProduct (suc k) (b ∷ bytes) r.0 r.1
+one_letter k b bytes r letter e =
+    let parts = some_pair (b ∷ [], bytes) r e in record {
+      some = rw (sym parts.0) (omega arith);
+      few = rw (sym parts.0) (omega arith);
+      all_letters = rw (sym parts.0) (and_from (is_letter b) true letter refl);
+      front = rw (sym parts.0, sym parts.1) refl;
+    }
+
+-- one more letter in front
+letter_in_front : (k b : ℕ) (bytes letters rest : List ℕ) → is_letter b ≡ true → IsProduct k bytes letters rest
+    → IsProduct (suc k) (b ∷ (42 ∷ bytes)) (b ∷ letters) rest
+letter_in_front k b bytes [] rest letter h = absurd (omega (arith, h.some))
+letter_in_front k b bytes (x ∷ letters) rest letter h = record {
+  some = omega arith;
+  few = omega (arith, h.few);
+  all_letters = and_from (is_letter b) (list_all is_letter (x ∷ letters)) letter h.all_letters;
+  front = ap (λ z. b ∷ (42 ∷ z)) h.front;
+}
+
+more_letters : (k b : ℕ) (bytes : List ℕ) (r : Read) (read : Option Read)
+    → ((s : Read) → read ≡ Some s → IsProduct k bytes s.0 s.1) → is_letter b ≡ true
+    → with_letter b read ≡ Some r → IsProduct (suc k) (b ∷ (42 ∷ bytes)) r.0 r.1
+more_letters k b bytes r None behind letter e = cc
+more_letters k b bytes r (Some s) behind letter e =
+    let parts = some_pair (b ∷ s.0, s.1) r e in
+    rw (sym parts.0, sym parts.1) (letter_in_front k b bytes s.0 s.1 letter (behind s refl))
+
+-- what stands behind a letter: `*` and more letters, or anything else
+behind_letter : (star : Bool) (k b next : ℕ) (bytes : List ℕ) (r : Read) → next == 42 ≡ star
+    → ((s : Read) → read_letters k bytes ≡ Some s → IsProduct k bytes s.0 s.1) → is_letter b ≡ true
+    → (if star then with_letter b (read_letters k bytes) else Some (b ∷ [], next ∷ bytes)) ≡ Some r
+    → IsProduct (suc k) (b ∷ (next ∷ bytes)) r.0 r.1
+behind_letter true k b next bytes r star behind letter e =
+    rw (eqb-true next 42 star) (more_letters k b bytes r (read_letters k bytes) behind letter e)
+behind_letter false k b next bytes r star behind letter e = one_letter k b (next ∷ bytes) r letter e
+
+-- letters that were read stood at the front
+pub begins_with_product : (k : ℕ) (bytes : List ℕ) (r : Read) → read_letters k bytes ≡ Some r → IsProduct k bytes r.0 r.1
+begins_with_product zero bytes r e = cc
+begins_with_product (suc k) [] r e = cc
+begins_with_product (suc k) (b ∷ []) r e =
+    let letter = if_some (is_letter b) (Some (b ∷ [], [])) r e in one_letter k b [] r letter.0 letter.1
+begins_with_product (suc k) (b ∷ (next ∷ bytes)) r e =
+    let behind : Option Read = if next == 42 then with_letter b (read_letters k bytes) else Some (b ∷ [], next ∷ bytes) in
+    let letter = if_some (is_letter b) behind r e in
+    behind_letter (next == 42) k b next bytes r refl (begins_with_product k bytes) letter.0 letter.1
+
+-- ---- scripts
+
+-- an accepted script, with no byte left
+accepted : (s : ShortScript) → IsShortScript s → accept_script s [] ≡ Some s
+accepted s h =
+    rw (h.listed, ne_eqb (digits_value s.factor % digits_value s.characteristic) 0 h.nonzero) refl
+
+-- the bytes of an accepted script are read as it
+pub read_script-script_bytes : (s : ShortScript) → IsShortScript s → read_script (script_bytes s) ≡ Some s
+unfolding read_script
+read_script-script_bytes s h =
+    let p : IsNumber s.characteristic = h.characteristic in
+    let c : IsNumber s.factor = h.factor in
+    let e : IsNumber s.constant = h.constant in
+    let comma : is_digit 44 ≡ false = refl in
+    let bracket : is_digit 41 ≡ false = refl in
+    let some : 1 ≤ length s.letters = h.some in
+    let few : length s.letters ≤ 64 = h.few in
+    let all : list_all is_letter s.letters ≡ true = h.letters in
+    let semicolon : 59 == 42 ≡ false = refl in
+    rw (read_number-append, read_number-append, read_number-append, read_letters-append) (accepted s h)
+
+-- accepted values with no byte left are those of the script
+acceptable : (s t : ShortScript) (bytes : List ℕ) → accept_script s bytes ≡ Some t
+    → (in_table (digits_value s.characteristic) ≡ true) × (digits_value s.factor % digits_value s.characteristic ≢ 0)
+    × (bytes ≡ []) × (s ≡ t)
+acceptable s t (b ∷ bytes) e = cc
+acceptable s t [] e =
+    let listed : Bool = in_table (digits_value s.characteristic) in
+    let zero_factor : Bool = digits_value s.factor % digits_value s.characteristic == 0 in
+    let both = if_some (listed && not zero_factor) (Some s) t e in
+    let parts = and_parts listed (not zero_factor) both.0 in
+    let same : s ≡ t = cc in
+    (parts.0, eqb-false (digits_value s.factor % digits_value s.characteristic) 0 (not-true zero_factor parts.1), refl, same)
+
+-- the steps of the reading, the last one first: what is left to read behind the numbers and the letters so far
+module _ (p : List ℕ) where
+  read_end : List ℕ → List ℕ → Read → Option ShortScript
+  read_end c e w =
+      option_and_then (accept_script (record { characteristic = p; factor = c; constant = e; letters = w.0 })) (after_text (codes ";" ++ line_feed) w.1)
+
+  read_product : List ℕ → List ℕ → List ℕ → Option ShortScript
+  read_product c e bytes = option_and_then (read_end c e) (read_letters 64 bytes)
+
+  read_setring : List ℕ → Read → Option ShortScript
+  read_setring c e = option_and_then (read_product c e.0) (after_text (codes "); setring W;" ++ line_feed) e.1)
+
+  read_constant : List ℕ → List ℕ → Option ShortScript
+  read_constant c bytes = option_and_then (read_setring c) (read_number bytes)
+
+  read_comma : Read → Option ShortScript
+  read_comma c = option_and_then (read_constant c.0) (after_text (codes ",") c.1)
+
+  read_factor : List ℕ → Option ShortScript
+  read_factor bytes = option_and_then read_comma (read_number bytes)
+
+read_variables : Read → Option ShortScript
+read_variables p = option_and_then (read_factor p.0) (after_text (codes ",(x,d),dp;" ++ (line_feed ++ codes "def W = nc_algebra(")) p.1)
+
+-- the bytes of a script, put together from its parts
+script_from_parts : (s : ShortScript) (b b0 b1 b2 b3 b4 b5 b6 b7 b8 : List ℕ)
+    → b ≡ codes "ring r = " ++ b0 → b0 ≡ s.characteristic ++ b1
+    → b1 ≡ codes ",(x,d),dp;" ++ (line_feed ++ codes "def W = nc_algebra(") ++ b2 → b2 ≡ s.factor ++ b3
+    → b3 ≡ codes "," ++ b4 → b4 ≡ s.constant ++ b5 → b5 ≡ codes "); setring W;" ++ line_feed ++ b6
+    → b6 ≡ product_bytes s.letters ++ b7 → b7 ≡ codes ";" ++ line_feed ++ b8 → b8 ≡ [] → b ≡ script_bytes s
+script_from_parts s b b0 b1 b2 b3 b4 b5 b6 b7 b8 f0 f1 f2 f3 f4 f5 f6 f7 f8 f9 =
+    rw (f0, f1, f2, f3, f4, f5, f6, f7, f8, f9) refl
+
+-- bytes that are read as a script are those of an accepted one
+pub script_bytes-read_script : (bytes : List ℕ) (s : ShortScript) → read_script bytes ≡ Some s → IsShortScript s × (bytes ≡ script_bytes s)
+unfolding read_script read_variables read_factor read_comma read_constant read_setring read_product read_end
+script_bytes-read_script bytes s h =
+    let ring_text : List ℕ = codes "ring r = " in
+    let variables_text : List ℕ = codes ",(x,d),dp;" ++ (line_feed ++ codes "def W = nc_algebra(") in
+    let setring_text : List ℕ = codes "); setring W;" ++ line_feed in
+    let end_text : List ℕ = codes ";" ++ line_feed in
+    let b0 = and_then_some (λ b. option_and_then read_variables (read_number b)) (after_text ring_text bytes) s h in
+    let p = and_then_some read_variables (read_number b0.0) s b0.2 in
+    let b2 = and_then_some (read_factor p.0.0) (after_text variables_text p.0.1) s p.2 in
+    let c = and_then_some (read_comma p.0.0) (read_number b2.0) s b2.2 in
+    let b4 = and_then_some (read_constant p.0.0 c.0.0) (after_text (codes ",") c.0.1) s c.2 in
+    let e = and_then_some (read_setring p.0.0 c.0.0) (read_number b4.0) s b4.2 in
+    let b6 = and_then_some (read_product p.0.0 c.0.0 e.0.0) (after_text setring_text e.0.1) s e.2 in
+    let w = and_then_some (read_end p.0.0 c.0.0 e.0.0) (read_letters 64 b6.0) s b6.2 in
+    let read : ShortScript = record { characteristic = p.0.0; factor = c.0.0; constant = e.0.0; letters = w.0.0 } in
+    let b8 = and_then_some (accept_script read) (after_text end_text w.0.1) s w.2 in
+    let p_is = begins_with_number b0.0 p.0.0 p.0.1 p.1 in
+    let c_is = begins_with_number b2.0 c.0.0 c.0.1 c.1 in
+    let e_is = begins_with_number b4.0 e.0.0 e.0.1 e.1 in
+    let w_is = begins_with_product 64 b6.0 w.0 w.1 in
+    let values = acceptable read s b8.0 b8.2 in
+    let accepted_script : IsShortScript read = record {
+      characteristic = p_is.0;
+      listed = values.0;
+      factor = c_is.0;
+      nonzero = values.1;
+      constant = e_is.0;
+      some = w_is.some;
+      few = w_is.few;
+      letters = w_is.all_letters;
+    } in
+    let front = script_from_parts read bytes b0.0 p.0.1 b2.0 c.0.1 b4.0 e.0.1 b6.0 w.0.1 b8.0
+    (begins_with_text ring_text bytes b0.0 b0.1) p_is.1 (begins_with_text variables_text p.0.1 b2.0 b2.1) c_is.1
+    (begins_with_text (codes ",") c.0.1 b4.0 b4.1) e_is.1 (begins_with_text setring_text e.0.1 b6.0 b6.1) w_is.front
+    (begins_with_text end_text w.0.1 b8.0 b8.1) values.2 in
+    subst (λ t. IsShortScript t × (bytes ≡ script_bytes t)) values.3 (accepted_script, front)

@@ -39,58 +39,77 @@ fn assert_answer(
     Ok(())
 }
 
+// The characteristic, the factor and the constant of a relation, a product, and its text.
+const PRODUCTS: &str = "\
+7 1 1 d*x x*d+1
+2 1 1 d*d*x x*d^2
+7 3 0 d*x*x 2*x^2*d
+7 1 1 x x
+7 1 1 x*d x*d
+7 1 1 d*d*x x*d^2+2*d
+7 1 6 d*x x*d-1
+7 6 0 d*x -x*d
+7 3 3 d*x 3*x*d+3
+7 4 4 d*x -3*x*d-3
+65521 65520 32760 d*x -x*d+32760
+65521 32761 65520 d*x -32760*x*d-1
+000000007 000000008 15 d*x x*d+1
+251 999999999 0 d*x -65*x*d
+";
+
 #[test]
 fn answers_products(rt: HostRuntime) -> Result<(), Fail> {
     let alloc = rt.alloc();
-    for (p, c, e, product, text) in [
-        ("7", "1", "1", "d*x", "x*d+1\n"),
-        ("2", "1", "1", "d*d*x", "x*d^2\n"),
-        ("7", "3", "0", "d*x*x", "2*x^2*d\n"),
-        ("7", "1", "1", "x", "x\n"),
-        ("7", "1", "1", "x*d", "x*d\n"),
-        ("7", "1", "1", "d*d*x", "x*d^2+2*d\n"),
-        ("7", "1", "6", "d*x", "x*d-1\n"),
-        ("7", "6", "0", "d*x", "-x*d\n"),
-        ("7", "3", "3", "d*x", "3*x*d+3\n"),
-        ("7", "4", "4", "d*x", "-3*x*d-3\n"),
-        ("65521", "65520", "32760", "d*x", "-x*d+32760\n"),
-        ("65521", "32761", "65520", "d*x", "-32760*x*d-1\n"),
-        ("000000007", "000000008", "15", "d*x", "x*d+1\n"),
-        ("251", "999999999", "0", "d*x", "-65*x*d\n"),
-    ] {
+    for row in PRODUCTS.lines() {
+        let fields: Vec<&str> = row.split(' ').collect(alloc)?;
+        let [p, c, e, product, text] = fields.as_slice() else {
+            return Err("a row has five fields".into());
+        };
         let script = format!(in alloc;
             "ring r = {p},(x,d),dp;\ndef W = nc_algebra({c},{e}); setring W;\n{product};\n"
         )?;
-        assert_answer(&rt, script.as_bytes(), 0, text)?;
+        let line = format!(in alloc; "{text}\n")?;
+        assert_answer(&rt, script.as_bytes(), 0, line.as_str())?;
     }
     Ok(())
 }
 
+// Texts that are no script, with `|` for a line feed and `$` for a carriage return.
+const OTHER_FORMS: &str = "\
+
+ring r = 7,(x,d),dp;|def W = nc_algebra(1,1); setring W;|d*x;
+ring r = 7,(x,d),dp;$|def W = nc_algebra(1,1); setring W;$|d*x;$|
+ring r = 7,(x,d),dp;|def W = nc_algebra(1,1); setring W;|d*x;||
+ ring r = 7,(x,d),dp;|def W = nc_algebra(1,1); setring W;|d*x;|
+ring r = 7,(x,d),dp;|def W = nc_algebra(1, 1); setring W;|d*x;|
+ring r = 7,(x,d),dp;|def W = nc_algebra(1,1);  setring W;|d*x;|
+ring r = 7,(x,d),lp;|def W = nc_algebra(1,1); setring W;|d*x;|
+ring r = 7,(x,d),dp;|def W = nc_algebra(-1,1); setring W;|d*x;|
+ring r = ,(x,d),dp;|def W = nc_algebra(1,1); setring W;|d*x;|
+ring r = 0000000007,(x,d),dp;|def W = nc_algebra(1,1); setring W;|d*x;|
+ring r = 7,(x,d),dp;|def W = nc_algebra(1,0000000001); setring W;|d*x;|
+ring r = 9,(x,d),dp;|def W = nc_algebra(1,1); setring W;|d*x;|
+ring r = 103,(x,d),dp;|def W = nc_algebra(1,1); setring W;|d*x;|
+ring r = 7,(x,d),dp;|def W = nc_algebra(0,1); setring W;|d*x;|
+ring r = 7,(x,d),dp;|def W = nc_algebra(14,1); setring W;|d*x;|
+ring r = 7,(x,d),dp;|def W = nc_algebra(1,1); setring W;|;|
+ring r = 7,(x,d),dp;|def W = nc_algebra(1,1); setring W;|d*x*;|
+ring r = 7,(x,d),dp;|def W = nc_algebra(1,1); setring W;|dx;|
+ring r = 7,(x,d),dp;|def W = nc_algebra(1,1); setring W;|d*y;|
+";
+
 #[test]
 fn refuses_other_forms(rt: HostRuntime) -> Result<(), Fail> {
-    for script in [
-        "",
-        "ring r = 7,(x,d),dp;\ndef W = nc_algebra(1,1); setring W;\nd*x;",
-        "ring r = 7,(x,d),dp;\r\ndef W = nc_algebra(1,1); setring W;\r\nd*x;\r\n",
-        "ring r = 7,(x,d),dp;\ndef W = nc_algebra(1,1); setring W;\nd*x;\n\n",
-        " ring r = 7,(x,d),dp;\ndef W = nc_algebra(1,1); setring W;\nd*x;\n",
-        "ring r = 7,(x,d),dp;\ndef W = nc_algebra(1, 1); setring W;\nd*x;\n",
-        "ring r = 7,(x,d),dp;\ndef W = nc_algebra(1,1);  setring W;\nd*x;\n",
-        "ring r = 7,(x,d),lp;\ndef W = nc_algebra(1,1); setring W;\nd*x;\n",
-        "ring r = 7,(x,d),dp;\ndef W = nc_algebra(-1,1); setring W;\nd*x;\n",
-        "ring r = ,(x,d),dp;\ndef W = nc_algebra(1,1); setring W;\nd*x;\n",
-        "ring r = 0000000007,(x,d),dp;\ndef W = nc_algebra(1,1); setring W;\nd*x;\n",
-        "ring r = 7,(x,d),dp;\ndef W = nc_algebra(1,0000000001); setring W;\nd*x;\n",
-        "ring r = 9,(x,d),dp;\ndef W = nc_algebra(1,1); setring W;\nd*x;\n",
-        "ring r = 103,(x,d),dp;\ndef W = nc_algebra(1,1); setring W;\nd*x;\n",
-        "ring r = 7,(x,d),dp;\ndef W = nc_algebra(0,1); setring W;\nd*x;\n",
-        "ring r = 7,(x,d),dp;\ndef W = nc_algebra(14,1); setring W;\nd*x;\n",
-        "ring r = 7,(x,d),dp;\ndef W = nc_algebra(1,1); setring W;\n;\n",
-        "ring r = 7,(x,d),dp;\ndef W = nc_algebra(1,1); setring W;\nd*x*;\n",
-        "ring r = 7,(x,d),dp;\ndef W = nc_algebra(1,1); setring W;\ndx;\n",
-        "ring r = 7,(x,d),dp;\ndef W = nc_algebra(1,1); setring W;\nd*y;\n",
-    ] {
-        assert_answer(&rt, script.as_bytes(), 1, "? Form\n")?;
+    for row in OTHER_FORMS.lines() {
+        let mut script = row.as_bytes().to_vec(rt.alloc())?;
+        for byte in script.iter_mut() {
+            match *byte {
+                b'|' => *byte = b'\n',
+                b'$' => *byte = b'\r',
+                _ => {}
+            }
+        }
+        assert_answer(&rt, &script, 1, "? Form\n")?;
     }
     Ok(())
 }

@@ -1,4 +1,5 @@
 pub mod Lists
 pub mod TermLists
 pub mod Sorting
+pub mod Multiples
 pub mod Merging

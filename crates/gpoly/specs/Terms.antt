@@ -1,5 +1,5 @@
 -- The terms of the program, as a polynomial.
-use Rattle.std.specs.Prelude.{ℕ, ◌<◌, ◌≤◌, List, map}
+use Rattle.std.specs.Prelude.{ℕ, ◌<◌, ◌≤◌, List, [], ◌∷◌, map}
 use Rattle.monomials.specs.Monomials.{Monomial, degree}
 use Rattle.monomials.specs.Polynomials.{Polynomial, Each, IsApart}
 use Rattle.gpoly.specs.declared.Term.{Term}
@@ -11,6 +11,11 @@ pair_of t = (t.coef, t.mono)
 -- terms, as a polynomial
 abbrev pub pairs_of : List Term → Polynomial
 pairs_of ts = map pair_of ts
+
+-- the number of the first term, 0 for the zero polynomial
+abbrev pub first_number : Polynomial → ℕ
+first_number [] = 0
+first_number (t ∷ f) = t.0
 
 -- what the terms of a polynomial are in any order: not zero, of degree at most 4095, with pairwise different monomials
 pub record IsTermList (f : Polynomial) : Type 0 where

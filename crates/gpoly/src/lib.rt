@@ -1,11 +1,11 @@
 //! Polynomials over a prime field, as lists of terms.
 #![tactic(auto)]
 
-ghost use Rattle.std.specs.Prelude.{◌≡◌, ℕ, ◌+◌, ◌*◌, ◌%◌, ◌<◌, ◌≤◌, ◌↔◌, ◌++◌, IsTrue, IfOk, OnOk, [], length};
+ghost use Rattle.std.specs.Prelude.{◌≡◌, ◌≢◌, ℕ, ◌+◌, ◌-◌, ◌*◌, ◌%◌, ◌<◌, ◌≤◌, ◌↔◌, ◌∷◌, ◌++◌, IsTrue, IsNone, IfSome, IfOk, OnOk, [], drop, length};
 ghost use Rattle.monomials.specs.Monomials.{Monomial, degree};
 ghost use Rattle.monomials.specs.Orders.{RowOrder, order_cmp};
-ghost use Rattle.monomials.specs.Polynomials.{Each, HasVars, HasNumbers, IsPolynomial, cons_nonzero, from_terms, poly_add, poly_scale, poly_degree, coefficient_at};
-ghost use Rattle.gpoly.specs.Terms.{pairs_of, IsTermList};
+ghost use Rattle.monomials.specs.Polynomials.{Each, HasVars, HasNumbers, IsPolynomial, cons_nonzero, from_terms, poly_add, poly_sub, poly_scale, poly_degree, coefficient_at};
+ghost use Rattle.gpoly.specs.Terms.{pair_of, pairs_of, first_number, IsTermList};
 
 use monomials::{Expo, Order};
 use prime_field::Field;
@@ -94,7 +94,29 @@ impl GPoly {
             coefficient_at m r ≡ (coefficient_at m self.now + coefficient_at m other.now) % field) }
     {
         let _p = field.p();
-        let terms = merge::merged(alloc, field, order, &self.terms, &other.terms)?;
+        let terms = merge::merged(alloc, field, order, &self.terms, 1, &other.terms)?;
+        Ok(GPoly { terms })
+    }
+
+    /// The difference `self - other` of two polynomials sorted by one order.
+    pub fn sub(
+        &self,
+        alloc: Global,
+        field: Field,
+        order: &Order,
+        other: &GPoly,
+    ) -> Result<GPoly, AllocError>
+        requires self_sorted { IsPolynomial field order.now self.now }
+        requires other_sorted { IsPolynomial field order.now other.now }
+        ensures value { IfOk result (λ r.
+            r ≡ poly_sub (order_cmp order.now.rows) field self.now other.now) }
+        ensures sorted { IfOk result (λ r. IsPolynomial field order.now r) }
+        ensures numbers { IfOk result (λ r. HasNumbers field r) }
+        ensures map { IfOk result (λ r. (m : Monomial) → coefficient_at m r
+            ≡ (coefficient_at m self.now + (field - coefficient_at m other.now)) % field) }
+    {
+        let minus_one = field.p() - 1;
+        let terms = merge::merged(alloc, field, order, &self.terms, minus_one, &other.terms)?;
         Ok(GPoly { terms })
     }
 
@@ -111,11 +133,43 @@ impl GPoly {
     {
         let _p = field.p();
         let mut terms = Vec::with_capacity(alloc, self.terms.len())?;
-        for term in &self.terms {
-            let coef = field.mul(k, term.coef);
-            push_nonzero(&mut terms, coef, term.mono)?;
-        }
+        push_multiples(&mut terms, field, k, &self.terms)?;
         Ok(GPoly { terms })
+    }
+
+    /// The multiple whose first number is 1, and the number by which it was multiplied: the inverse
+    /// of the first number. It is sorted as the polynomial is.
+    pub fn monic(&self, alloc: Global, field: Field) -> Result<(GPoly, u32), AllocError>
+        requires not_zero { self.now ≢ [] }
+        requires numbers { HasNumbers field self.now }
+        ensures scale { IfOk result (λ (_, k). (k * first_number self.now) % field ≡ 1) }
+        ensures in_range { IfOk result (λ (_, k). k < field) }
+        ensures value { IfOk result (λ (r, k). r ≡ poly_scale field k self.now) }
+        ensures monic { IfOk result (λ (r, _). first_number r ≡ 1) }
+        ensures numbers { IfOk result (λ (r, _). HasNumbers field r) }
+        ensures sorted { IfOk result (λ (r, _). (o : RowOrder) →
+            IsPolynomial field o self.now → IsPolynomial field o r) }
+    {
+        let k = field.inv(self.terms[0].coef);
+        Ok((self.scale(alloc, field, k)?, k))
+    }
+
+    /// The same polynomial, in memory of its own.
+    pub fn copy(&self, alloc: Global) -> Result<GPoly, AllocError>
+        ensures { IfOk result (λ r. r ≡ self.now) }
+    {
+        let terms = Vec::from_slice(alloc, &self.terms)?;
+        Ok(GPoly { terms })
+    }
+
+    /// The first term, which has the greatest monomial where the polynomial is sorted. There is none
+    /// in the zero polynomial.
+    pub fn leading(&self) -> Option<&Term>
+        ensures zero { IsNone result ↔ (self.now ≡ []) }
+        ensures first { IfSome result (λ t. self.now ≡ pair_of t.now ∷ drop 1 self.now) }
+        ensures facts { IsTermList self.now }
+    {
+        self.terms.first()
     }
 
     /// The terms, with the greatest monomial first where the polynomial is sorted.
@@ -161,6 +215,24 @@ fn push_nonzero(terms: &mut Vec<Term>, coef: u32, mono: Expo) -> Result<(), Allo
 {
     if coef != 0 {
         terms.push(Term { coef, mono })?;
+    }
+    Ok(())
+}
+
+// Adds the multiples by k of these terms at the end.
+fn push_multiples(
+    multiples: &mut Vec<Term>,
+    field: Field,
+    k: u32,
+    terms: &[Term],
+) -> Result<(), AllocError>
+    requires in_range { k < field }
+    requires numbers { HasNumbers field (pairs_of terms.now) }
+    ensures { OnOk result (pairs_of multiples.new.items
+        ≡ pairs_of multiples.old.items ++ poly_scale field k (pairs_of terms.now)) }
+{
+    for term in terms {
+        push_nonzero(multiples, field.mul(k, term.coef), term.mono)?;
     }
     Ok(())
 }

@@ -63,6 +63,8 @@ fn sorts_and_adds_up(rt: HostRuntime) -> Result<(), Fail> {
         assert_eq!(rt; f.terms(), sorted.as_slice());
         assert_eq!(rt; f.degree(), *degree);
         assert_eq!(rt; f.is_zero(), sorted.is_empty());
+        assert_eq!(rt; f.leading(), sorted.first());
+        assert!(rt; f.copy(alloc)?.equals(&f));
     }
     Ok(())
 }
@@ -85,5 +87,53 @@ fn adds_and_scales(rt: HostRuntime) -> Result<(), Fail> {
     let f_thrice = f.scale(alloc, field, 3)?;
     assert_eq!(rt; f_thrice.terms(), thrice.as_slice());
     assert!(rt; f.scale(alloc, field, 0)?.equals(&GPoly::zero(alloc)));
+    Ok(())
+}
+
+// Two polynomials, and their difference, modulo 7.
+const DIFFERENCES: [(&[Row], &[Row], &[Row]); 4] = [
+    (
+        &[(2, 2, 0), (3, 1, 0), (1, 0, 0)],
+        &[(5, 1, 1), (4, 1, 0), (6, 0, 0)],
+        &[(2, 2, 0), (2, 1, 1), (6, 1, 0), (2, 0, 0)],
+    ),
+    (
+        &[(5, 1, 1), (4, 1, 0), (6, 0, 0)],
+        &[(2, 2, 0), (3, 1, 0), (1, 0, 0)],
+        &[(5, 2, 0), (5, 1, 1), (1, 1, 0), (5, 0, 0)],
+    ),
+    (&[(3, 1, 1), (2, 0, 1)], &[(3, 1, 1)], &[(2, 0, 1)]),
+    (&[(3, 1, 1), (2, 0, 1)], &[(3, 1, 1), (2, 0, 1)], &[]),
+];
+
+#[test]
+fn subtracts(rt: HostRuntime) -> Result<(), Fail> {
+    let alloc = rt.alloc();
+    let field = Field::of(7)?;
+    let order = Order::new(alloc, &[Block::DegRev { len: 2 }], 2)?;
+    for (f, g, difference) in &DIFFERENCES {
+        let f = terms_of(alloc, field, f)?;
+        let g = terms_of(alloc, field, g)?;
+        let difference = terms_of(alloc, field, difference)?;
+        let f = GPoly::from_terms(alloc, field, &order, &f)?;
+        let g = GPoly::from_terms(alloc, field, &order, &g)?;
+        let f_less_g = f.sub(alloc, field, &order, &g)?;
+        assert_eq!(rt; f_less_g.terms(), difference.as_slice());
+    }
+    Ok(())
+}
+
+#[test]
+fn makes_monic(rt: HostRuntime) -> Result<(), Fail> {
+    let alloc = rt.alloc();
+    let field = Field::of(7)?;
+    let order = Order::new(alloc, &[Block::DegRev { len: 2 }], 2)?;
+    let f = terms_of(alloc, field, &[(2, 2, 0), (3, 1, 0), (1, 0, 0)])?;
+    let want = terms_of(alloc, field, &[(1, 2, 0), (5, 1, 0), (4, 0, 0)])?;
+    let f = GPoly::from_terms(alloc, field, &order, &f)?;
+    assert!(rt; !f.is_zero());
+    let (monic, scale) = f.monic(alloc, field)?;
+    assert_eq!(rt; monic.terms(), want.as_slice());
+    assert_eq!(rt; scale, 4);
     Ok(())
 }

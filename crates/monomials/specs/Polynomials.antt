@@ -1,6 +1,6 @@
 -- Polynomials as lists of terms, each a number and a key, with the greatest key first. The keys of a polynomial are monomials;
 -- sums of words have words as keys.
-use Rattle.std.specs.Prelude.{◌≡◌, ◌≢◌, ℕ, zero, suc, ◌+◌, ◌*◌, ◌%◌, ◌<◌, max, List, [], ◌∷◌, length}
+use Rattle.std.specs.Prelude.{◌≡◌, ◌≢◌, ℕ, zero, suc, ◌+◌, ◌-◌, ◌*◌, ◌%◌, ◌<◌, max, List, [], ◌∷◌, length}
 use Rattle.std.specs.declared.cmp.Ordering.{Ordering}
 use Rattle.std.specs.declared.cmp.Ordering.TheVariants.{Less, Equal, Greater}
 use Rattle.std.specs.Ordering.{nat_cmp}
@@ -41,6 +41,10 @@ module _ {K : Type 0} (cmp : K → K → Ordering) (p : ℕ) where
 abbrev pub poly_scale : {K : Type 0} → ℕ → ℕ → List (ℕ × K) → List (ℕ × K)
 poly_scale p c [] = []
 poly_scale p c (t ∷ f) = cons_nonzero ((c * t.0) % p) t.1 (poly_scale p c f)
+
+-- the difference of two polynomials: the sum of f and -1 times g, where p - 1 stands for -1
+abbrev pub poly_sub : {K : Type 0} → (K → K → Ordering) → ℕ → List (ℕ × K) → List (ℕ × K) → List (ℕ × K)
+poly_sub cmp p f g = poly_add cmp p f (poly_scale p (p - 1) g)
 
 -- The linear extension of `value` to f: the sum of c times the value at k, over the terms c k of f.
 abbrev pub sum_over : {J K : Type 0} → (K → K → Ordering) → ℕ → (J → List (ℕ × K)) → List (ℕ × J) → List (ℕ × K)

@@ -1,22 +1,13 @@
-use Rattle.std.proofs.Common.{rules, ◌≡◌, ◌<◌, ◌*◌, ◌%◌, ◌∙◌, sym, ap, subst, arith}
+use Rattle.std.proofs.Common.{rules, ◌≡◌, ◌*◌, ◌%◌, ◌∙◌, sym, ap, subst, arith}
 use Rattle.monomials.specs.Polynomials.{HasNumbers, IsPolynomial, poly_scale, coefficient_at}
 use Rattle.monomials.proofs.Operations.{HasNumbers-poly_scale, IsPolynomial-poly_scale, coefficient_of_multiple}
 use Rattle.gpoly.specs.Terms.{pairs_of, IsTermList}
-use Rattle.gpoly.proofs.TermLists.{IsTermList-poly_scale, numbers_at, scaled_all}
+use Rattle.gpoly.proofs.TermLists.{IsTermList-poly_scale}
 use Rattle.gpoly.proofs.GPoly.scale.Goals as goal
 
-pub mul-coef-requires-clause-b_in_range : goal.mul-coef-requires-clause-b_in_range
-mul-coef-requires-clause-b_in_range c =
-    let terms_are : pairs_of c.deref-term-items.result.now ≡ c.args.self.now =
-    ap pairs_of c.deref-term-items.ensures.value ∙ c.self.view_is in
-    subst (λ t. t.coef < c.args.field) (sym c.term-item.is)
-    (numbers_at c.args.field c.deref-term-items.result.now c.loop-term.term-index _ (search rules) (subst (HasNumbers c.args.field) (sym terms_are) c.requires.numbers))
-
--- behind the loop the terms are the multiple
-whole : (c : goal.After-loop-term) → pairs_of c.loop-term.terms.items ≡ poly_scale c.args.field c.args.k (pairs_of c.self.inside.terms.items)
-whole c =
-    scaled_all c.args.field c.args.k c.loop-term.terms.items c.deref-term-items.result.now c.self.inside.terms.items c.loop-term.term-index
-    c.loop-term-test.false c.deref-term-items.ensures.value c.loop-term.invariant.rest
+-- the terms that were pushed are the multiple
+whole : (c : goal.In_ok-push_multiples) → pairs_of c.push_multiples.new.multiples.items ≡ poly_scale c.args.field c.args.k (pairs_of c.self.inside.terms.items)
+whole c = search rules
 
 pub invariant_of-result : goal.invariant_of-result
 invariant_of-result c =

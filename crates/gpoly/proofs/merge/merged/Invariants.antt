@@ -6,7 +6,7 @@ abbrev pub invariant-loop-i : goal.invariant-loop-i
 invariant-loop-i l = record {
   i_in : l.i ≤ length l.left;
   j_in : l.j ≤ length l.right;
-  merging : IsMerging l.field l.order l.left l.right l.sum.items l.i l.j;
+  merging : IsMerging l.field l.order l.left l.k l.right l.sum.items l.i l.j;
 }
 
 abbrev pub decreases-loop-i : goal.decreases-loop-i

@@ -98,9 +98,9 @@ product-variable A above_one f v h =
     same_weights A (product A f (variable_polynomial A v)) (word_value A (with_letter v f))
     (product_is_polynomial A above_one f (variable_polynomial A v)) (word_value_is_polynomial A above_one (with_letter v f))
     (λ φ.
-        weigh-product A φ f (variable_polynomial A v)
-        ∙ same_refl A.p _ _ (weigh_equal _ _ (letter φ) f ∙ sym (weigh-map_key (word_weight A φ) (λ m. sorted_word m ++ v ∷ []) f))
-        ∙ sym (weigh-word_value A φ (with_letter v f)))
+    weigh-product A φ f (variable_polynomial A v)
+    ∙ same_refl A.p _ _ (weigh_equal _ _ (letter φ) f ∙ sym (weigh-map_key (word_weight A φ) (λ m. sorted_word m ++ v ∷ []) f))
+    ∙ sym (weigh-word_value A φ (with_letter v f)))
   where
     letter : (φ : Monomial → ℕ) (a : Monomial) → weigh (λ b. word_weight A φ (sorted_word a ++ sorted_word b)) (variable_polynomial A v) ≡ word_weight A φ (sorted_word a ++ v ∷ [])
     letter φ a = omega (arith, ap (λ w. word_weight A φ (sorted_word a ++ w)) (sorted_word-variable A.order.vars v h))

@@ -2,7 +2,7 @@
 use Rattle.std.specs.Prelude.{ℕ, [], ◌∷◌, ◌++◌}
 use Rattle.monomials.specs.Monomials.{variable, one}
 use Rattle.monomials.specs.Orders.{order_cmp}
-use Rattle.monomials.specs.Polynomials.{Polynomial, sum_over}
+use Rattle.monomials.specs.Polynomials.{Polynomial, sum_over, poly_degree}
 use Rattle.word_model.specs.Words.{Algebra, Word, normal_form, sorted_word}
 
 -- The product: over the terms of f and of g, the product of their two numbers times
@@ -25,3 +25,13 @@ times_letters A f (v ∷ w) = times_letters A (product A f (variable_polynomial 
 abbrev pub letters_product : Algebra → Word → Polynomial
 letters_product A [] = (1, one A.order.vars) ∷ []
 letters_product A (v ∷ w) = times_letters A (variable_polynomial A v) w
+
+-- the most that the degrees of the factors of a computed product may add up to
+abbrev pub degree_limit : ℕ
+degree_limit = 4095
+
+-- whether a product is computed: one factor is zero, or the degrees add up to at most the limit
+abbrev pub in_reach : Polynomial → Polynomial → Bool
+in_reach [] g = true
+in_reach (t ∷ f) [] = true
+in_reach (t ∷ f) (u ∷ g) = nat_le (poly_degree (t ∷ f) + poly_degree (u ∷ g)) degree_limit

@@ -7,3 +7,8 @@ pub mod Keys
 pub mod OrderLaws
 pub mod Coefficients
 pub mod Operations
+pub mod Exponents
+pub mod RowValues
+pub mod Covering
+pub mod AddedRows
+pub mod Separation

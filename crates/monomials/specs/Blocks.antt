@@ -1,8 +1,8 @@
 -- The blocks of an order, each with its rows.
 use Rattle.std.specs.Prelude.{◌≡◌, ℕ, zero, suc, ◌+◌, ◌-◌, ◌<◌, List, [], ◌∷◌, ◌++◌, replicate, map, sum, ℤ, pos, negsuc}
 use Rattle.monomials.specs.Orders.{RowOrder}
-use Rattle.monomials.specs.declared.Block.{Block}
-use Rattle.monomials.specs.declared.Block.TheVariants.{DegRev}
+use Rattle.monomials.specs.declared.order.Block.{Block}
+use Rattle.monomials.specs.declared.order.Block.TheVariants.{DegRev}
 
 -- how many variables a block covers
 abbrev pub block_len : Block → ℕ

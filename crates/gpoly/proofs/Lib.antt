@@ -1,0 +1,4 @@
+pub mod Lists
+pub mod TermLists
+pub mod Sorting
+pub mod Merging

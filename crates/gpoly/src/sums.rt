@@ -1,0 +1,78 @@
+//! Sums of terms that were sorted.
+
+ghost use Rattle.std.specs.Prelude.{◌≡◌, ◌<◌, IfOk, OnOk, List, reverse, ℤ};
+ghost use Rattle.monomials.specs.Orders.{order_cmp};
+ghost use Rattle.monomials.specs.Polynomials.{HasNumbers, HasVars, insert_term, from_terms};
+ghost use Rattle.gpoly.specs.Terms.{pairs_of};
+ghost use Rattle.gpoly.specs.Sorting.{rank_cmp, IsNotBelow, IsFalling};
+
+use crate::{Term, push_nonzero};
+use monomials::{Expo, Order};
+use prime_field::Field;
+use std::alloc::{AllocError, Global};
+use std::cmp::Ordering;
+
+// The sum of terms in any order, with the greatest monomial first.
+pub fn summed(
+    alloc: Global,
+    field: Field,
+    order: &Order,
+    terms: &[Term],
+) -> Result<Vec<Term>, AllocError>
+    requires numbers { HasNumbers field (pairs_of terms.now) }
+    requires vars { HasVars order.now.vars (pairs_of terms.now) }
+    ensures { IfOk result (λ sums. pairs_of sums.items
+        ≡ from_terms (order_cmp order.now.rows) field (pairs_of terms.now)) }
+{
+    let _p = field.p();
+    let mut rising = Vec::from_slice(alloc, terms)?;
+    rising.sort_by(|a, b| rank(order, &a.mono, &b.mono))?;
+    let mut sums = rising_sums(alloc, field, &rising)?;
+    sums.reverse();
+    Ok(sums)
+}
+
+// The order, extended to monomials in other numbers of variables, so that a sort may compare any two.
+fn rank(order: &Order, a: &Expo, b: &Expo) -> Ordering
+    ensures { result ≡ rank_cmp order.now a.now b.now }
+{
+    match a.len().cmp(&b.len()) {
+        Ordering::Equal if a.len() == order.vars() => order.compare(a, b),
+        lengths => lengths,
+    }
+}
+
+// The sum of terms in rising order, itself in rising order.
+fn rising_sums(alloc: Global, field: Field, rising: &[Term]) -> Result<Vec<Term>, AllocError>
+    requires { HasNumbers field (pairs_of rising.now) }
+    ensures { IfOk result (λ sums. (rows : List (List ℤ)) →
+        IsFalling (order_cmp rows) (reverse (pairs_of rising.now)) →
+        reverse (pairs_of sums.items)
+        ≡ from_terms (order_cmp rows) field (reverse (pairs_of rising.now))) }
+{
+    let mut sums = Vec::with_capacity(alloc, rising.len())?;
+    for term in rising {
+        add_last(&mut sums, field, *term)?;
+    }
+    Ok(sums)
+}
+
+// Adds a term whose monomial is not below the last one.
+fn add_last(sums: &mut Vec<Term>, field: Field, term: Term) -> Result<(), AllocError>
+    requires in_range { term.coef < field }
+    requires numbers { HasNumbers field (pairs_of sums.old.items) }
+    ensures numbers { OnOk result (HasNumbers field (pairs_of sums.new.items)) }
+    ensures sum { OnOk result ((rows : List (List ℤ)) →
+        IsNotBelow (order_cmp rows) term.mono (pairs_of sums.old.items) →
+        reverse (pairs_of sums.new.items)
+        ≡ insert_term (order_cmp rows) field term.coef term.mono (reverse (pairs_of sums.old.items))) }
+{
+    match sums.last() {
+        Some(last) if last.mono == term.mono => {
+            let coef = field.add(last.coef, term.coef);
+            sums.pop();
+            push_nonzero(sums, coef, term.mono)
+        }
+        _ => push_nonzero(sums, term.coef, term.mono),
+    }
+}

@@ -1,5 +1,5 @@
 -- Products in a G-algebra.
-use Rattle.std.specs.Prelude.{ℕ, [], ◌∷◌, ◌++◌}
+use Rattle.std.specs.Prelude.{ℕ, ◌+◌, Bool, true, nat_le, [], ◌∷◌, ◌++◌}
 use Rattle.monomials.specs.Monomials.{variable, one}
 use Rattle.monomials.specs.Orders.{order_cmp}
 use Rattle.monomials.specs.Polynomials.{Polynomial, sum_over, poly_degree}

@@ -85,7 +85,9 @@ impl Presentation {
         ensures not_empty { 1 ≤ result }
         ensures at_most { result ≤ 16 }
         ensures data { IsAlgebraData self.now }
+        ensures prime { IsPrime self.now.p }
     {
+        let _p = self.field.p();
         self.order.vars()
     }
 

@@ -20,7 +20,8 @@ fn in_reach(f: &GPoly, g: &GPoly) -> bool
     ensures value { result ≡ in_reach f.now g.now }
     ensures degrees { result ≡ true → poly_degree f.now + poly_degree g.now ≤ 4095 }
 {
-    f.is_zero() || g.is_zero() || f.degree() + g.degree() <= DEGREE_LIMIT
+    let degree = f.degree() + g.degree();
+    f.is_zero() || g.is_zero() || degree <= DEGREE_LIMIT
 }
 
 impl Algebra {

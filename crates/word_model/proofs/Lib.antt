@@ -12,4 +12,10 @@ pub mod LeadingMonomials
 pub mod Faults
 pub mod Acceptance
 pub mod TwoVariables
+pub mod Places
+pub mod Inside
+pub mod Apart
+pub mod Overlaps
+pub mod Confluence
+pub mod Associativity
 mod Rows

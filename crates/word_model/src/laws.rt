@@ -1,6 +1,6 @@
 //! Laws of words and products, each the contract of a function without a body.
 
-ghost use Rattle.std.specs.Prelude.{◌≡◌, ◌≢◌, ℕ, ◌+◌, ◌<◌, ◌≤◌, ◌⊎◌, List, [], ◌∷◌, length, Option, Some, None};
+ghost use Rattle.std.specs.Prelude.{◌≡◌, ◌≢◌, ℕ, ◌+◌, ◌<◌, ◌≤◌, ◌⊎◌, List, [], ◌∷◌, ◌++◌, length, Option, Some, None};
 ghost use Rattle.prime_field.specs.Modular.{IsPrime};
 ghost use Rattle.monomials.specs.Monomials.{Monomial, degree, plus, variable};
 ghost use Rattle.monomials.specs.Orders.{order_cmp};
@@ -8,7 +8,7 @@ ghost use Rattle.monomials.specs.Polynomials.{Polynomial, HasVars, IsPolynomial,
 ghost use Rattle.word_model.specs.Words.{Algebra, Word, WordSum, IsWord, monomial_of, sorted_word, Descent, leftmost_descent, rewritten, normal_form, word_value, IsPaired};
 ghost use Rattle.word_model.specs.Leading.{leading_monomial};
 ghost use Rattle.word_model.specs.Conditions.{Fault, pair_fault, triple_fault, first_from, relations_fault, NonZero, IsField, IsRegular, IsAlgebraData, IsAccepted};
-ghost use Rattle.word_model.specs.Products.{product};
+ghost use Rattle.word_model.specs.Products.{product, letters_product};
 ghost use Rattle.word_model.specs.Scripts.{two_variables};
 
 /// The sorted words are the words without a descent, one for each monomial.
@@ -27,16 +27,19 @@ pub fn sorted_word_form()
 pub fn rewriting()
     ensures sorted { (A : Algebra) (w : Word) → leftmost_descent w ≡ None →
         normal_form A w ≡ (1, monomial_of A.order.vars w) ∷ [] }
-    ensures rewritten { (A : Algebra) (w : Word) (s : Descent) → IsPaired A → IsWord A.order.vars w →
-        leftmost_descent w ≡ Some s → normal_form A w ≡ word_value A (rewritten A s) }
+    ensures rewritten { (A : Algebra) (w : Word) (s : Descent) → IsPaired A →
+        IsWord A.order.vars w → leftmost_descent w ≡ Some s →
+        normal_form A w ≡ word_value A (rewritten A s) }
     ensures two_variables { (p c e : ℕ) → IsPaired (two_variables p c e) }
 {}
 
 /// Normal forms of words and of sums of words, and products, are polynomials of the algebra.
 pub fn normal_forms_are_polynomials()
     ensures word { (A : Algebra) (w : Word) → 1 < A.p → IsPolynomial A.p A.order (normal_form A w) }
-    ensures sum { (A : Algebra) (f : WordSum) → 1 < A.p → IsPolynomial A.p A.order (word_value A f) }
-    ensures product { (A : Algebra) (f g : Polynomial) → 1 < A.p → IsPolynomial A.p A.order (product A f g) }
+    ensures sum { (A : Algebra) (f : WordSum) → 1 < A.p →
+        IsPolynomial A.p A.order (word_value A f) }
+    ensures product { (A : Algebra) (f g : Polynomial) → 1 < A.p →
+        IsPolynomial A.p A.order (product A f g) }
 {}
 
 /// Products distribute over sums, on both sides.
@@ -55,8 +58,8 @@ pub fn degree_bound()
         HasVars A.order.vars g → poly_degree (product A f g) ≤ poly_degree f + poly_degree g }
 {}
 
-/// Products of nonzero polynomials are not zero, and leading monomials multiply: over a field, where
-/// rewriting leads downwards and no number of a relation is zero.
+/// Products of nonzero polynomials are not zero, and leading monomials multiply: over a field,
+/// where rewriting leads downwards and no number of a relation is zero.
 pub fn leading_terms()
     ensures nonzero { (A : Algebra) (f g : Polynomial) → IsField A.p → IsPaired A → IsRegular A →
         IsPolynomial A.p A.order f → IsPolynomial A.p A.order g → f ≢ [] → g ≢ [] →
@@ -67,7 +70,7 @@ pub fn leading_terms()
 {}
 
 /// Relations without a fault are accepted over a field, as those of each algebra of two variables
-/// with a constant are. The numbers modulo a prime are a field.
+/// with a constant and a nonzero number are. The numbers modulo a prime are a field.
 pub fn acceptance()
     ensures accepted { (A : Algebra) → relations_fault A ≡ None → IsAlgebraData A → IsField A.p →
         IsAccepted A }
@@ -98,4 +101,28 @@ pub fn first_fault()
         ((a b c : ℕ) → 1 ≤ a → a < b → b < c → c ≤ A.order.vars →
         (a < i) ⊎ ((a ≡ i) × ((b < j) ⊎ ((b ≡ j) × (c < k)))) → triple_fault A a b c ≡ None) →
         triple_fault A i j k ≡ Some f → relations_fault A ≡ Some f }
+{}
+
+/// A word has the same normal form whichever two letters in descending order are rewritten first.
+pub fn any_pair_first()
+    ensures { (A : Algebra) (u : Word) (j i : ℕ) (v : Word) → IsAccepted A →
+        IsWord A.order.vars (u ++ j ∷ i ∷ v) → i < j →
+        normal_form A (u ++ j ∷ i ∷ v)
+        ≡ word_value A (rewritten A (record { before = u; high = j; low = i; after = v })) }
+{}
+
+/// The product of an accepted algebra is associative.
+pub fn associate()
+    ensures { (A : Algebra) (f g h : Polynomial) → IsAccepted A → HasVars A.order.vars f →
+        HasVars A.order.vars g → HasVars A.order.vars h →
+        product A (product A f g) h ≡ product A f (product A g h) }
+{}
+
+/// In an accepted algebra normal forms multiply as words do: the letters of a word, multiplied from
+/// left to right, give its normal form.
+pub fn letters_multiply()
+    ensures letters { (A : Algebra) (w : Word) → IsAccepted A → IsWord A.order.vars w →
+        letters_product A w ≡ normal_form A w }
+    ensures words { (A : Algebra) (u w : Word) → IsAccepted A → IsWord A.order.vars (u ++ w) →
+        product A (normal_form A u) (normal_form A w) ≡ normal_form A (u ++ w) }
 {}

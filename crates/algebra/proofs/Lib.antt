@@ -1,3 +1,5 @@
 mod Places
 mod Counting
 mod Pairs
+mod Sums
+mod Replacing

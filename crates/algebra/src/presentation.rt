@@ -1,7 +1,7 @@
 //! The relations of an algebra, with its field and its order.
 
 ghost use Rattle.std.specs.Prelude.{◌≡◌, ℕ, ◌+◌, ◌-◌, ◌*◌, ◌/◌, ◌<◌, ◌≤◌, IfOk, [], length, replicate};
-ghost use Rattle.monomials.specs.Polynomials.{Each, IsPolynomial};
+ghost use Rattle.monomials.specs.Polynomials.{Each, HasNumbers, IsPolynomial};
 ghost use Rattle.prime_field.specs.Modular.{IsPrime};
 ghost use Rattle.word_model.specs.Words.{c_of, d_of, pair_index};
 ghost use Rattle.word_model.specs.Conditions.{IsAlgebraData};
@@ -106,7 +106,8 @@ impl Presentation {
         requires pair { i < j }
         requires last { j ≤ self.now.order.vars }
         ensures value { result.now ≡ d_of self.now i j }
-        ensures polynomial { IsPolynomial self.now.p self.now.order (d_of self.now i j) }
+        ensures polynomial { IsPolynomial self.now.p self.now.order result.now }
+        ensures numbers { HasNumbers self.now.p result.now }
     {
         &self.d[self.pair_index(i, j)]
     }

@@ -77,6 +77,7 @@ impl Presentation {
         ensures vars { IfOk result (λ r. HasVars self.now.order.vars (pairs_of r.items)) }
         ensures small { IfOk result (λ r. Each (λ t. degree t.1 ≤ 4095) (pairs_of r.items)) }
     {
+        let _p = self.field();
         let mut sorted = Vec::new(alloc);
         while let Some(term) = pending.pop() {
             match word::leftmost_descent(&term.word) {

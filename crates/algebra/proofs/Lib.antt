@@ -3,3 +3,5 @@ mod Counting
 mod Pairs
 mod Sums
 mod Replacing
+mod Testing
+mod OverlapSums

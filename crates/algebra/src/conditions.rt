@@ -20,7 +20,8 @@ impl Presentation {
     pub(crate) fn test_pairs(&self) -> Result<(), AlgebraFault>
         ensures { Answers (pairs_fault self.now) result }
     {
-        for i in 1..self.n() as u8 + 1 {
+        let n = self.n() as u8;
+        for i in 1..n + 1 {
             self.test_row(i)?;
         }
         Ok(())
@@ -32,7 +33,8 @@ impl Presentation {
         requires last { i ≤ self.now.order.vars }
         ensures { Answers (row_fault self.now i) result }
     {
-        for j in i + 1..self.n() as u8 + 1 {
+        let n = self.n() as u8;
+        for j in i + 1..n + 1 {
             self.test_pair(i, j)?;
         }
         Ok(())
@@ -77,7 +79,8 @@ impl Presentation {
         requires { IsPaired self.now }
         ensures { Answers (triples_fault self.now) result }
     {
-        for i in 1..self.n() as u8 + 1 {
+        let n = self.n() as u8;
+        for i in 1..n + 1 {
             self.test_plane(alloc, i)?;
         }
         Ok(())
@@ -90,7 +93,8 @@ impl Presentation {
         requires last { i ≤ self.now.order.vars }
         ensures { Answers (plane_fault self.now i) result }
     {
-        for j in i + 1..self.n() as u8 + 1 {
+        let n = self.n() as u8;
+        for j in i + 1..n + 1 {
             self.test_line(alloc, i, j)?;
         }
         Ok(())
@@ -104,7 +108,8 @@ impl Presentation {
         requires last { j ≤ self.now.order.vars }
         ensures { Answers (line_fault self.now i j) result }
     {
-        for k in j + 1..self.n() as u8 + 1 {
+        let n = self.n() as u8;
+        for k in j + 1..n + 1 {
             self.test_triple(alloc, i, j, k)?;
         }
         Ok(())
@@ -136,6 +141,7 @@ impl Presentation {
         requires last { k ≤ self.now.order.vars }
         ensures { IfOk result (λ r. r ≡ triple_rest self.now i j k) }
     {
+        let _p = self.field();
         let words = self.overlap(alloc, i, j, k)?;
         self.word_value(alloc, words)
     }

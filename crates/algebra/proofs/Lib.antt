@@ -5,3 +5,4 @@ mod Sums
 mod Replacing
 mod Testing
 mod OverlapSums
+mod Letterwise

@@ -55,6 +55,7 @@ impl Algebra {
         ensures value { IfOk result (λ r. r ≡ product self.now f.now g.now) }
         ensures sorted { IfOk result (λ r. IsPolynomial self.now.p self.now.order r) }
     {
+        let _n = self.n();
         let mut sum = GPoly::zero(alloc);
         for term in g.terms() {
             let part = self.times_term(alloc, f, term)?;
@@ -72,6 +73,7 @@ impl Algebra {
         ensures value { IfOk result (λ r. r ≡ product self.now f.now (pair_of term.now ∷ [])) }
         ensures sorted { IfOk result (λ r. IsPolynomial self.now.p self.now.order r) }
     {
+        let _n = self.n();
         let mut product = f.scale(alloc, self.field(), term.coef)?;
         let word = word::around(alloc, &[], &term.mono, &[])?;
         for letter in &word {
@@ -91,6 +93,7 @@ impl Algebra {
         }
         ensures sorted { IfOk result (λ r. IsPolynomial self.now.p self.now.order r) }
     {
+        let _n = self.n();
         let mut words = Vec::new(alloc);
         push_between(alloc, &mut words, self.field(), 1, &[], f, &[letter])?;
         self.presentation.word_value(alloc, words)

@@ -18,4 +18,5 @@ pub mod Apart
 pub mod Overlaps
 pub mod Confluence
 pub mod Associativity
+pub mod TermProducts
 mod Rows

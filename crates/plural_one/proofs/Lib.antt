@@ -5,7 +5,5 @@ pub mod Values
 pub mod Monomials
 pub mod Scripted
 pub mod Runs
-mod ProductWords
-mod ProductSums
-mod ProductRewriting
-mod ProductLetters
+pub mod Relations
+pub mod Products

@@ -1,16 +1,19 @@
 -- What is known of a script that was read, and of its answer.
-use Rattle.std.proofs.Common.{◌≡◌, ℕ, ◌≤◌, ◌==◌, Bool, true, false, List, [], ◌∷◌, map, Option, Some, None, refl, sym, ◌∙◌, ap, subst, arith}
+use Rattle.std.proofs.Common.{◌≡◌, ◌≢◌, ℕ, ◌%◌, ◌≤◌, ◌==◌, Bool, true, false, List, [], ◌∷◌, ◌++◌, map, Option, Some, None, codes, refl, sym, ap, subst, arith}
 use Rattle.std.specs.Prelude.{IfSome, if◌then◌else◌}
+use Rattle.std.specs.Fmt.{decimal}
 use Rattle.std.specs.Option.{option_map}
 use Rattle.std.specs.List.{list_all}
-use Rattle.std.proofs.lemmas.Bool.{and_parts}
+use Rattle.std.proofs.lemmas.Bool.{and_parts, eq-eqb, ne_eqb}
 use Rattle.std.proofs.lemmas.List.{length-map}
+use Rattle.prime_field.specs.Modular.{in_table}
 use Rattle.word_model.specs.Words.{IsWord}
-use Rattle.word_model.specs.Scripts.{ShortScript, IsShortScript, is_letter, letter_number, read_script}
-use Rattle.word_model.specs.Answers.{script_text, script_answer}
+use Rattle.word_model.specs.Scripts.{ShortScript, IsShortScript, is_letter, letter_number, digits_value, two_variables, read_script}
+use Rattle.word_model.specs.Answers.{line, script_text, short_answer, script_answer}
 use Rattle.word_model.proofs.ReadingLaws.{script_bytes-read_script}
 use Rattle.plural_one.specs.Readings.{ScriptValues, short_values, kept_values, IsScriptWord}
-use Rattle.plural_one.specs.Replies.{values_text}
+use Rattle.plural_one.specs.Replies.{given, product_text, AnswersValues}
+use Rattle.plural_one.specs.declared.run.Reply.{Reply}
 use Rattle.plural_one.specs.declared.script.Script.{Script}
 
 -- the number of a letter is 1 or 2
@@ -43,10 +46,46 @@ read_script_word bytes script e = word_of script (read_script bytes) refl e wher
       subst IsScriptWord (sym (ap (λ (v : ScriptValues). v.word) values)) (short_word t (script_bytes-read_script bytes t is).0)
 
 -- the answer to a script that was read
-pub script_answered : (read : Option ShortScript) (s : Script) (text : List ℕ) → Some (kept_values s) ≡ option_map short_values read
-    → text ≡ values_text (kept_values s) → record { text = text; status = 0 } ≡ script_answer read
-unfolding script_text
-script_answered None s text e h = cc
-script_answered (Some t) s text e h =
-    let values : kept_values s ≡ short_values t = cc in
-    let same : text ≡ script_text t = h ∙ ap values_text values in ap (λ z. record { text = z; status = 0 }) same
+pub script_answered : (read : Option ShortScript) (s : Script) (reply : Reply) → Some (kept_values s) ≡ option_map short_values read
+    → AnswersValues (kept_values s) reply → given reply ≡ script_answer read
+script_answered None s reply e h = cc
+script_answered (Some t) s reply e h = let values : kept_values s ≡ short_values t = cc in h t (sym values)
+
+-- ---- what a script is answered, by its values
+
+module _ (s : ShortScript) where
+  -- its characteristic is not in the table
+  pub answer_characteristic : (p : ℕ) → digits_value s.characteristic ≡ p → in_table p ≡ false
+      → short_answer s ≡ record { text = line (codes "? line 1: Characteristic " ++ decimal p); status = 1 }
+  unfolding short_answer
+  answer_characteristic p is out = rw (is, out) refl
+
+  -- the number of its relation is zero
+  pub answer_coefficient : (v : ScriptValues) → short_values s ≡ v → in_table v.numbers.characteristic ≡ true
+      → v.numbers.factor % v.numbers.characteristic ≡ 0
+      → short_answer s ≡ record { text = line (codes "? line 2: Coefficient 1 2"); status = 3 }
+  unfolding short_answer
+  answer_coefficient v is listed zero_factor =
+      let test : v.numbers.factor % v.numbers.characteristic == 0 ≡ true = eq-eqb (v.numbers.factor % v.numbers.characteristic) 0 zero_factor in
+      answer (subst (λ v. in_table v.numbers.characteristic ≡ true) (sym is) listed)
+      (subst (λ v. (v.numbers.factor % v.numbers.characteristic == 0) ≡ true) (sym is) test)
+    where
+      answer : in_table (digits_value s.characteristic) ≡ true → (digits_value s.factor % digits_value s.characteristic == 0) ≡ true
+          → short_answer s ≡ record { text = line (codes "? line 2: Coefficient 1 2"); status = 3 }
+      answer listed test = rw (listed, test) refl
+
+  -- its product is printed
+  pub answer_product : (v : ScriptValues) → short_values s ≡ v → in_table v.numbers.characteristic ≡ true
+      → v.numbers.factor % v.numbers.characteristic ≢ 0 → (text : List ℕ)
+      → text ≡ product_text (two_variables v.numbers.characteristic v.numbers.factor v.numbers.constant) v.word
+      → record { text = text; status = 0 } ≡ short_answer s
+  unfolding short_answer script_text
+  answer_product v is listed some text e =
+      let test : v.numbers.factor % v.numbers.characteristic == 0 ≡ false = ne_eqb (v.numbers.factor % v.numbers.characteristic) 0 some in
+      answer (subst (λ v. in_table v.numbers.characteristic ≡ true) (sym is) listed)
+      (subst (λ v. (v.numbers.factor % v.numbers.characteristic == 0) ≡ false) (sym is) test)
+      (subst (λ v. text ≡ product_text (two_variables v.numbers.characteristic v.numbers.factor v.numbers.constant) v.word) (sym is) e)
+    where
+      answer : in_table (digits_value s.characteristic) ≡ true → (digits_value s.factor % digits_value s.characteristic == 0) ≡ false
+          → text ≡ script_text s → record { text = text; status = 0 } ≡ short_answer s
+      answer listed test e = rw (listed, test, e) refl

@@ -1,7 +1,6 @@
 -- What the program keeps of a script, and how it reads it, step by step.
-use Rattle.std.specs.Prelude.{◌≡◌, ℕ, ◌%◌, ◌==◌, ◌&&◌, ◌≤◌, not, length, List, [], ◌∷◌, ◌++◌, map, Option, Some, None, codes, if◌then◌else◌, option_and_then}
+use Rattle.std.specs.Prelude.{◌≡◌, ℕ, ◌≤◌, length, List, [], ◌∷◌, ◌++◌, map, Option, Some, None, codes, if◌then◌else◌, option_and_then}
 use Rattle.std.specs.Option.{option_map}
-use Rattle.prime_field.specs.Modular.{in_table}
 use Rattle.word_model.specs.Words.{Word, IsWord}
 use Rattle.word_model.specs.Scripts.{ShortScript, line_feed, digits_value, is_letter, letter_number, after_text, read_number, read_letters}
 use Rattle.plural_one.specs.declared.script.Numbers.{Numbers}
@@ -22,7 +21,7 @@ short_values s = record {
 -- what the program keeps
 abbrev pub kept_values : Script → ScriptValues
 kept_values s = record {
-  numbers = record { characteristic = s.field; factor = s.factor; constant = s.constant };
+  numbers = s.numbers;
   word = s.letters.items;
 }
 
@@ -67,15 +66,10 @@ read_numbers bytes = do
   b6 ← after_text (codes "); setring W;" ++ line_feed) e.1
   Some (record { characteristic = p.0; factor = c.0; constant = e.0 }, b6)
 
--- the values, if they are accepted
-abbrev pub accept_values : ScriptValues → Option ScriptValues
-accept_values s =
-    if in_table s.numbers.characteristic && not (s.numbers.factor % s.numbers.characteristic == 0) then Some s else None
-
--- the values, if they are accepted and no byte is left
-abbrev pub accept_at_end : ScriptValues → List ℕ → Option ScriptValues
-accept_at_end s (b ∷ bytes) = None
-accept_at_end s [] = accept_values s
+-- the values, if no byte is left
+abbrev pub values_at_end : ScriptValues → List ℕ → Option ScriptValues
+values_at_end s [] = Some s
+values_at_end s (b ∷ bytes) = None
 
 -- the values of a script
 abbrev pub read_values : List ℕ → Option ScriptValues
@@ -83,4 +77,4 @@ read_values bytes = do
   n ← read_numbers bytes
   w ← read_word 64 n.1
   b ← after_text (codes ";" ++ line_feed) w.1
-  accept_at_end (record { numbers = n.0; word = w.0 }) b
+  values_at_end (record { numbers = n.0; word = w.0 }) b

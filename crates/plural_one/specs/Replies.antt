@@ -1,24 +1,26 @@
 -- The program's replies.
 use Rattle.std.specs.Prelude.{◌≡◌, ℕ, List, string_bytes, codes, Result, Ok, Err}
-use Rattle.word_model.specs.Words.{Algebra}
-use Rattle.word_model.specs.Answers.{Answer, answer_of, line, script_names}
+use Rattle.word_model.specs.Words.{Algebra, Word}
 use Rattle.word_model.specs.Products.{letters_product}
-use Rattle.word_model.specs.Scripts.{two_variables}
+use Rattle.word_model.specs.Scripts.{ShortScript}
 use Rattle.word_model.specs.Texts.{polynomial_text}
-use Rattle.plural_one.specs.Readings.{ScriptValues}
+use Rattle.word_model.specs.Answers.{Answer, answer_of, short_answer, line, script_names}
+use Rattle.plural_one.specs.Readings.{ScriptValues, short_values}
 use Rattle.plural_one.specs.Runs.{SourceSeen, HasRead}
 use Rattle.plural_io.specs.declared.reading.ReadAllFault.{ReadAllFault}
 use Rattle.plural_io.specs.declared.reading.ReadAllFault.TheVariants.{Failed, TooLong as LongSource, Memory}
 use Rattle.plural_one.specs.declared.run.Stopped.{Stopped}
 use Rattle.plural_one.specs.declared.run.Stopped.TheVariants.{Read, Memory as NoMemory}
 use Rattle.plural_one.specs.declared.run.Reply.{Reply}
-use Rattle.plural_one.specs.declared.run.Reply.TheVariants.{Words, TooLong, Form, Product}
+use Rattle.plural_one.specs.declared.run.Reply.TheVariants.{Words, TooLong, Form, Characteristic, Coefficient, Product}
 
 -- a reply's text and status
 abbrev pub given : Reply → Answer
 given Words = record { text = line (codes "? Words, expected [--pairs N] [--make K]"); status = 2 }
 given TooLong = record { text = line (codes "? TooLong"); status = 1 }
 given Form = record { text = line (codes "? Form"); status = 1 }
+given (Characteristic text) = record { text = string_bytes text; status = 1 }
+given Coefficient = record { text = line (codes "? line 2: Coefficient 1 2"); status = 3 }
 given (Product text) = record { text = string_bytes text; status = 0 }
 
 -- the status of a run that stopped before its answer
@@ -32,11 +34,13 @@ fault_reply Failed = Err Read
 fault_reply LongSource = Ok TooLong
 fault_reply Memory = Err NoMemory
 
--- the line of the product that a script's values ask for
-abbrev pub values_text : ScriptValues → List ℕ
-values_text s =
-    let A : Algebra = two_variables s.numbers.characteristic s.numbers.factor s.numbers.constant in
-    line (polynomial_text A.p script_names (letters_product A s.word))
+-- the line of the product of a word's letters
+abbrev pub product_text : Algebra → Word → List ℕ
+product_text A w = line (polynomial_text A.p script_names (letters_product A w))
+
+-- this is the answer to each script with these values
+abbrev pub AnswersValues : ScriptValues → Reply → Type 0
+AnswersValues values reply = (s : ShortScript) → short_values s ≡ values → given reply ≡ short_answer s
 
 -- this is the answer to the bytes that were read
 pub record Answers (words : List (List ℕ)) (source source' : SourceSeen) (reply : Reply) : Type 0 where

@@ -1,104 +1,132 @@
-//! Products in an algebra of x and d.
+//! Algebras of x and d, and products of letters.
 
-ghost use Rattle.std.specs.Prelude.{◌≡◌, ◌+◌, ◌<◌, ◌≤◌, length, IfOk};
+ghost use Rattle.std.specs.Prelude.{◌≡◌, ◌≢◌, ◌+◌, ◌%◌, ◌<◌, ◌≤◌, length, IfOk, MatchOption};
 ghost use Rattle.monomials.specs.Polynomials.{IsPolynomial, poly_degree};
 ghost use Rattle.word_model.specs.Words.{IsWord};
 ghost use Rattle.word_model.specs.Products.{product, variable_polynomial, letters_product};
 ghost use Rattle.word_model.specs.Scripts.{two_variables};
 
+use algebra::{Algebra, AlgebraFault, ProductFault, Relations};
 use gpoly::{GPoly, Term};
-use monomials::{Block, Expo, Order};
+use monomials::{Block, Expo, Order, OrderFault};
 use prime_field::Field;
-use relation::Relation;
 use std::alloc::{AllocError, Global};
-use std::marker::Model;
 
-mod relation;
 #[cfg(test)]
 mod tests;
-mod word;
 
-/// The algebra of x and d, ordered by `dp`, with d x = c x d + e. A contract sees it as an algebra.
-#[derive(Drop)]
-pub struct TwoVariables {
-    relation: Relation,
-    order: Order,
+/// The algebra of x and d over the field with d x = `factor` x d + `constant`, ordered by `dp`.
+/// None where the factor is zero in the field.
+pub fn two_variables(
+    alloc: Global,
+    field: Field,
+    factor: u32,
+    constant: u32,
+) -> Result<Option<Algebra>, AllocError>
+    ensures { IfOk result (λ algebra. MatchOption algebra (factor % field ≡ 0)
+        (λ a. (factor % field ≢ 0) × (a ≡ two_variables field factor constant))) }
+{
+    let _p = field.p();
+    let order = degree_order(alloc)?;
+    let relations = one_relation(alloc, field, &order, factor, constant)?;
+    match Algebra::new(alloc, field, order, 2, relations) {
+        Ok(algebra) => Ok(Some(algebra)),
+        Err(fault) => match fault {
+            AlgebraFault::Coefficient { .. } => Ok(None),
+            AlgebraFault::Memory => Err(AllocError),
+            AlgebraFault::Profile { .. }
+            | AlgebraFault::Ordering { .. }
+            | AlgebraFault::NonDegeneracy { .. } => unreachable!(),
+        },
+    }
 }
 
-impl Model for TwoVariables {
-    ghost use Rattle.word_model.specs.Words.{Algebra};
-
-    ghost Value = { Algebra };
-
-    ghost use Rattle.std.specs.Prelude.{◌≡◌};
-    ghost use Rattle.word_model.specs.Scripts.{two_variables};
-
-    ghost view = { λ a. two_variables a.relation.field a.relation.c a.relation.e };
-
-    ghost invariant = { λ a. a.order ≡ (two_variables a.relation.field a.relation.c a.relation.e).order };
+// The order `dp` of two variables.
+fn degree_order(alloc: Global) -> Result<Order, AllocError>
+    ensures { IfOk result (λ order. order ≡ (two_variables 0 0 0).order) }
+{
+    match Order::new(alloc, &[Block::DegRev { len: 2 }], 2) {
+        Ok(order) => Ok(order),
+        Err(OrderFault::Memory) => Err(AllocError),
+        Err(OrderFault::Cover) => unreachable!(),
+    }
 }
 
-impl TwoVariables {
-    /// The algebra with this relation, whose numbers are taken modulo the characteristic.
-    pub fn new(alloc: Global, field: Field, c: u32, e: u32) -> Result<TwoVariables, AllocError>
-        ensures { IfOk result (λ a. a ≡ two_variables field c e) }
-    {
-        match Order::new(alloc, &[Block::DegRev { len: 2 }], 2) {
-            Ok(order) => {
-                let relation = Relation {
-                    field,
-                    c: field.from_int(u64::from(c)),
-                    e: field.from_int(u64::from(e)),
-                };
-                Ok(TwoVariables { relation, order })
-            }
-            Err(_) => Err(AllocError),
-        }
-    }
+// The relation d x = `factor` x d + `constant`.
+fn one_relation(
+    alloc: Global,
+    field: Field,
+    order: &Order,
+    factor: u32,
+    constant: u32,
+) -> Result<Relations, AllocError>
+    requires { order.now ≡ (two_variables 0 0 0).order }
+    ensures number { IfOk result (λ r. r.c.items ≡ (two_variables field factor constant).c) }
+    ensures polynomial { IfOk result (λ r. r.d.items ≡ (two_variables field factor constant).d) }
+{
+    let term = Term {
+        coef: field.from_int(u64::from(constant)),
+        mono: Expo::one(2),
+    };
+    let c = vec![in alloc; field.from_int(u64::from(factor))]?;
+    let d = vec![in alloc; GPoly::from_terms(alloc, field, order, &[term])?]?;
+    Ok(Relations { c, d })
+}
 
-    /// The product of the letters, 1 for x and 2 for d, multiplied from left to right.
-    pub fn letters_product(&self, alloc: Global, letters: &[u8]) -> Result<GPoly, AllocError>
-        requires letters { IsWord 2 letters.now }
-        requires some { 1 ≤ length letters.now }
-        requires few { length letters.now ≤ 4095 }
-        ensures value { IfOk result (λ r. r ≡ letters_product self.now letters.now) }
-        ensures polynomial { IfOk result (λ r. IsPolynomial self.now.p self.now.order r) }
-    {
-        let mut product = self.variable(alloc, letters[0])?;
-        for letter in &letters[1..] {
-            product = self.times_letter(alloc, &product, *letter)?;
-        }
-        Ok(product)
+/// The product of the letters, which are numbers of variables, multiplied from left to right.
+pub fn letters_product(
+    alloc: Global,
+    algebra: &Algebra,
+    letters: &[u8],
+) -> Result<GPoly, AllocError>
+    requires letters { IsWord algebra.now.order.vars letters.now }
+    requires some { 1 ≤ length letters.now }
+    requires few { length letters.now ≤ 4095 }
+    ensures value { IfOk result (λ r. r ≡ letters_product algebra.now letters.now) }
+    ensures polynomial { IfOk result (λ r. IsPolynomial algebra.now.p algebra.now.order r) }
+{
+    let mut product = variable(alloc, algebra, letters[0])?;
+    for letter in &letters[1..] {
+        product = times_letter(alloc, algebra, &product, *letter)?;
     }
+    Ok(product)
+}
 
-    // The variable with this letter.
-    fn variable(&self, alloc: Global, letter: u8) -> Result<GPoly, AllocError>
-        requires first { 1 ≤ letter }
-        requires last { letter ≤ 2 }
-        ensures value { IfOk result (λ r. r ≡ variable_polynomial self.now letter) }
-        ensures polynomial { IfOk result (λ r. IsPolynomial self.now.p self.now.order r) }
-    {
-        let _p = self.relation.field.p();
-        let term = Term {
-            coef: 1,
-            mono: Expo::var(2, letter),
-        };
-        GPoly::from_terms(alloc, self.relation.field, &self.order, &[term])
-    }
+// The variable with this number.
+fn variable(alloc: Global, algebra: &Algebra, letter: u8) -> Result<GPoly, AllocError>
+    requires first { 1 ≤ letter }
+    requires last { letter ≤ algebra.now.order.vars }
+    ensures value { IfOk result (λ r. r ≡ variable_polynomial algebra.now letter) }
+    ensures polynomial { IfOk result (λ r. IsPolynomial algebra.now.p algebra.now.order r) }
+    ensures degree { IfOk result (λ r. poly_degree r ≤ 1) }
+{
+    let term = Term {
+        coef: 1,
+        mono: Expo::var(algebra.n(), letter),
+    };
+    GPoly::from_terms(alloc, algebra.field(), algebra.order(), &[term])
+}
 
-    // The product by the variable with this letter.
-    fn times_letter(&self, alloc: Global, f: &GPoly, letter: u8) -> Result<GPoly, AllocError>
-        requires first { 1 ≤ letter }
-        requires last { letter ≤ 2 }
-        requires polynomial { IsPolynomial self.now.p self.now.order f.now }
-        requires small { poly_degree f.now < 4095 }
-        ensures value { IfOk result (λ r. r ≡ product self.now f.now (variable_polynomial self.now letter)) }
-        ensures polynomial { IfOk result (λ r. IsPolynomial self.now.p self.now.order r) }
-        ensures degree { IfOk result (λ r. poly_degree r ≤ poly_degree f.now + 1) }
-    {
-        let _p = self.relation.field.p();
-        let words = relation::words_behind(alloc, f, letter)?;
-        let terms = self.relation.sorted_terms(alloc, words)?;
-        GPoly::from_terms(alloc, self.relation.field, &self.order, &terms)
+// The product by the variable with this number.
+fn times_letter(
+    alloc: Global,
+    algebra: &Algebra,
+    f: &GPoly,
+    letter: u8,
+) -> Result<GPoly, AllocError>
+    requires first { 1 ≤ letter }
+    requires last { letter ≤ algebra.now.order.vars }
+    requires polynomial { IsPolynomial algebra.now.p algebra.now.order f.now }
+    requires small { poly_degree f.now < 4095 }
+    ensures value { IfOk result (λ r. r ≡ product algebra.now f.now (variable_polynomial algebra.now letter)) }
+    ensures polynomial { IfOk result (λ r. IsPolynomial algebra.now.p algebra.now.order r) }
+    ensures degree { IfOk result (λ r. poly_degree r ≤ poly_degree f.now + 1) }
+{
+    let _n = algebra.n();
+    let variable = variable(alloc, algebra, letter)?;
+    match algebra.plain_product(alloc, f, &variable) {
+        Ok(product) => Ok(product),
+        Err(ProductFault::Memory) => Err(AllocError),
+        Err(ProductFault::DegreeOver) => unreachable!(),
     }
 }

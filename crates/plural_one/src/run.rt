@@ -5,13 +5,15 @@ ghost use Rattle.plural_io.specs.Faults.{Rose};
 ghost use Rattle.word_model.specs.Answers.{script_answer};
 ghost use Rattle.word_model.specs.Scripts.{read_script};
 ghost use Rattle.plural_one.specs.Readings.{IsScriptWord, kept_values};
-ghost use Rattle.plural_one.specs.Replies.{given, stopped_status, fault_reply, values_text, Answers};
+ghost use Rattle.plural_one.specs.Replies.{given, stopped_status, fault_reply, product_text, Answers, AnswersValues};
 ghost use Rattle.plural_one.specs.Runs.{IsRun, IsUndisturbed};
 
-use crate::product::TwoVariables;
+use crate::product::{letters_product, two_variables};
 use crate::script::{self, Script};
 use crate::text::polynomial_text;
+use algebra::Algebra;
 use plural_io::{ReadAllFault, Sink, Source, read_all, write_all_of};
+use prime_field::Field;
 use std::alloc::{AllocError, Global};
 
 #[cfg(test)]
@@ -31,6 +33,8 @@ const TOO_LONG: &[u8] = b"? TooLong\n";
 
 const FORM: &[u8] = b"? Form\n";
 
+const COEFFICIENT: &[u8] = b"? line 2: Coefficient 1 2\n";
+
 /// What the program answers.
 #[derive(Drop)]
 enum Reply {
@@ -40,6 +44,10 @@ enum Reply {
     TooLong,
     /// The bytes are no script.
     Form,
+    /// The line that refuses the script's characteristic.
+    Characteristic(String),
+    /// The number of the script's relation is zero.
+    Coefficient,
     /// The line of the product that the script asks for.
     Product(String),
 }
@@ -52,7 +60,8 @@ impl Reply {
             Reply::Words => WORDS,
             Reply::TooLong => TOO_LONG,
             Reply::Form => FORM,
-            Reply::Product(text) => text.as_bytes(),
+            Reply::Coefficient => COEFFICIENT,
+            Reply::Characteristic(text) | Reply::Product(text) => text.as_bytes(),
         }
     }
 
@@ -61,7 +70,8 @@ impl Reply {
     {
         match self {
             Reply::Words => 2,
-            Reply::TooLong | Reply::Form => 1,
+            Reply::TooLong | Reply::Form | Reply::Characteristic(_) => 1,
+            Reply::Coefficient => 3,
             Reply::Product(_) => 0,
         }
     }
@@ -162,19 +172,36 @@ fn reply_to_script(alloc: Global, bytes: &[u8]) -> Result<Reply, AllocError>
     ensures { IfOk result (λ reply. given reply ≡ script_answer (read_script bytes.now)) }
 {
     match script::read(alloc, bytes)? {
-        Some(script) => Ok(Reply::Product(product_line(alloc, &script)?)),
+        Some(script) => Ok(reply_to_values(alloc, &script)?),
         None => Ok(Reply::Form),
     }
 }
 
-// The line of the product that a script asks for.
-fn product_line(alloc: Global, script: &Script) -> Result<String, AllocError>
+// The reply to the numbers and the letters of a script.
+fn reply_to_values(alloc: Global, script: &Script) -> Result<Reply, AllocError>
     requires { IsScriptWord script.now.letters.items }
-    ensures { IfOk result (λ text. string_bytes text ≡ values_text (kept_values script.now)) }
+    ensures { IfOk result (AnswersValues (kept_values script.now)) }
 {
-    let algebra = TwoVariables::new(alloc, script.field, script.factor, script.constant)?;
-    let product = algebra.letters_product(alloc, &script.letters)?;
-    let mut text = polynomial_text(alloc, script.field, &["x", "d"], &product)?;
+    let numbers = script.numbers;
+    let Ok(field) = Field::of(numbers.characteristic) else {
+        let p = numbers.characteristic;
+        let line = format!(in alloc; "? line 1: Characteristic {p}\n")?;
+        return Ok(Reply::Characteristic(line));
+    };
+    match two_variables(alloc, field, numbers.factor, numbers.constant)? {
+        Some(algebra) => Ok(Reply::Product(product_line(alloc, &algebra, &script.letters)?)),
+        None => Ok(Reply::Coefficient),
+    }
+}
+
+// The line of the product of the letters.
+fn product_line(alloc: Global, algebra: &Algebra, letters: &[u8]) -> Result<String, AllocError>
+    requires vars { algebra.now.order.vars ≡ 2 }
+    requires word { IsScriptWord letters.now }
+    ensures { IfOk result (λ text. string_bytes text ≡ product_text algebra.now letters.now) }
+{
+    let product = letters_product(alloc, algebra, letters)?;
+    let mut text = polynomial_text(alloc, algebra.field(), &["x", "d"], &product)?;
     text.push('\n')?;
     Ok(text)
 }

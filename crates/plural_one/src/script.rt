@@ -4,9 +4,8 @@ ghost use Rattle.std.specs.Prelude.{◌≡◌, ◌≤◌, ℕ, length, true, cod
 ghost use Rattle.std.specs.List.{list_all, prefix_len};
 ghost use Rattle.std.specs.Option.{option_map};
 ghost use Rattle.word_model.specs.Scripts.{is_digit, digits_value, after_text, read_script};
-ghost use Rattle.plural_one.specs.Readings.{Reads, read_value, read_numbers, read_letter, read_word, accept_values, read_values, short_values, kept_values, IsScriptWord};
+ghost use Rattle.plural_one.specs.Readings.{Reads, read_value, read_numbers, read_letter, read_word, read_values, short_values, kept_values, IsScriptWord};
 
-use prime_field::Field;
 use std::alloc::{AllocError, Global};
 use std::marker::Model;
 
@@ -16,7 +15,8 @@ const MOST_LETTERS: usize = 64;
 /// The most digits that a number may have.
 const MOST_DIGITS: usize = 9;
 
-/// The numbers of a script, each below 10^9.
+/// The numbers of a script, each below 10^9: those of the algebra of x and d over the field of
+/// this characteristic with d x = `factor` x d + `constant`.
 #[derive(Clone, Copy)]
 pub struct Numbers {
     pub characteristic: u32,
@@ -24,13 +24,10 @@ pub struct Numbers {
     pub constant: u32,
 }
 
-/// A script: the algebra of x and d over the field with d x = `factor` x d + `constant`,
-/// and the letters of the product that it asks for, 1 for x and 2 for d.
+/// A script: its numbers, and the letters of the product that it asks for, 1 for x and 2 for d.
 #[derive(Drop)]
 pub struct Script {
-    pub field: Field,
-    pub factor: u32,
-    pub constant: u32,
+    pub numbers: Numbers,
     pub letters: Vec<u8>,
 }
 
@@ -129,44 +126,27 @@ impl<'a> Reader<'a> {
         let Some(numbers) = self.numbers() else {
             return Ok(None);
         };
-        let Some(word) = self.word(alloc)? else {
+        let Some(letters) = self.word(alloc)? else {
             return Ok(None);
         };
         let Some(()) = self.expect(b";\n") else {
             return Ok(None);
         };
         if self.bytes.is_empty() {
-            Ok(accepted(numbers, word))
+            Ok(Some(Script { numbers, letters }))
         } else {
             Ok(None)
         }
     }
 }
 
-/// The script that these bytes are, or None where they are no script of the form that is accepted.
+/// The script that these bytes are, or None where they are none.
 pub fn read(alloc: Global, bytes: &[u8]) -> Result<Option<Script>, AllocError>
     ensures values { IfOk result (λ script.
         option_map kept_values script ≡ option_map short_values (read_script bytes.now)) }
     ensures word { IfOk result (λ script. IfSome script (λ s. IsScriptWord s.letters.items)) }
 {
     Reader { bytes }.script(alloc)
-}
-
-// The script of these numbers and letters, if the characteristic is in the table and the factor is not zero modulo it.
-fn accepted(numbers: Numbers, letters: Vec<u8>) -> Option<Script>
-    ensures { option_map kept_values result
-        ≡ accept_values (record { numbers = numbers; word = letters.items }) }
-{
-    let field = Field::of(numbers.characteristic).ok()?;
-    if field.from_int(u64::from(numbers.factor)) == 0 {
-        return None;
-    }
-    Some(Script {
-        field,
-        factor: numbers.factor,
-        constant: numbers.constant,
-        letters,
-    })
 }
 
 // How many digits stand at the front.

@@ -18,5 +18,6 @@ pub mod Apart
 pub mod Overlaps
 pub mod Confluence
 pub mod Associativity
+pub mod TermProducts
 mod Rows
 pub mod ReadingLaws

@@ -1,4 +1,4 @@
--- Reading a script is the inverse of its form: the bytes of an accepted script are read as it,
+-- Reading a script is the inverse of its form: the bytes of a script are read as it,
 -- and bytes that are read as a script are its bytes.
 use Rattle.std.proofs.Common.{◌≡◌, ◌≢◌, ℕ, zero, suc, ◌+◌, ◌%◌, ◌≤◌, ◌==◌, nat_le, ◌&&◌, not, List, [], ◌∷◌, ◌++◌, map, length, take, drop, Bool, true, false, Option, Some, None, codes, refl, sym, ◌∙◌, ap, subst, arith, inl, inr, one-add}
 use Rattle.std.specs.Prelude.{if◌then◌else◌, option_and_then}
@@ -7,7 +7,7 @@ use Rattle.std.proofs.lemmas.Bool.{eqb-true, eq-eqb, eqb-false, ne_eqb, and_part
 use Rattle.std.proofs.lemmas.List.{take-append-drop, take_at, drop_at}
 use Rattle.std.proofs.lemmas.List.Folds.{prefix_len-append, length-prefix_len}
 use Rattle.prime_field.specs.Modular.{in_table}
-use Rattle.word_model.specs.Scripts.{ShortScript, script_bytes, line_feed, is_digit, is_letter, IsNumber, digits_value, IsShortScript, after_text, read_number, with_letter, read_letters, accept_script, read_script}
+use Rattle.word_model.specs.Scripts.{ShortScript, script_bytes, line_feed, is_digit, is_letter, IsNumber, digits_value, IsShortScript, after_text, read_number, with_letter, read_letters, script_at_end, read_script}
 
 -- a conditional option that holds a value
 if_some : {X : Type 0} (b : Bool) (o : Option X) (x : X) → (if b then o else None) ≡ Some x → (b ≡ true) × (o ≡ Some x)
@@ -163,12 +163,7 @@ begins_with_product (suc k) (b ∷ (next ∷ bytes)) r e =
 
 -- ---- scripts
 
--- an accepted script, with no byte left
-accepted : (s : ShortScript) → IsShortScript s → accept_script s [] ≡ Some s
-accepted s h =
-    rw (h.listed, ne_eqb (digits_value s.factor % digits_value s.characteristic) 0 h.nonzero) refl
-
--- the bytes of an accepted script are read as it
+-- the bytes of a script are read as it
 pub read_script-script_bytes : (s : ShortScript) → IsShortScript s → read_script (script_bytes s) ≡ Some s
 unfolding read_script
 read_script-script_bytes s h =
@@ -181,26 +176,18 @@ read_script-script_bytes s h =
     let few : length s.letters ≤ 64 = h.few in
     let all : list_all is_letter s.letters ≡ true = h.letters in
     let semicolon : 59 == 42 ≡ false = refl in
-    rw (read_number-append, read_number-append, read_number-append, read_letters-append) (accepted s h)
+    rw (read_number-append, read_number-append, read_number-append, read_letters-append) refl
 
--- accepted values with no byte left are those of the script
-acceptable : (s t : ShortScript) (bytes : List ℕ) → accept_script s bytes ≡ Some t
-    → (in_table (digits_value s.characteristic) ≡ true) × (digits_value s.factor % digits_value s.characteristic ≢ 0)
-    × (bytes ≡ []) × (s ≡ t)
-acceptable s t (b ∷ bytes) e = cc
-acceptable s t [] e =
-    let listed : Bool = in_table (digits_value s.characteristic) in
-    let zero_factor : Bool = digits_value s.factor % digits_value s.characteristic == 0 in
-    let both = if_some (listed && not zero_factor) (Some s) t e in
-    let parts = and_parts listed (not zero_factor) both.0 in
-    let same : s ≡ t = cc in
-    (parts.0, eqb-false (digits_value s.factor % digits_value s.characteristic) 0 (not-true zero_factor parts.1), refl, same)
+-- with no byte left, what was read is the script
+at_end : (s t : ShortScript) (bytes : List ℕ) → script_at_end s bytes ≡ Some t → (bytes ≡ []) × (s ≡ t)
+at_end s t (b ∷ bytes) e = cc
+at_end s t [] e = (refl, cc)
 
 -- the steps of the reading, the last one first: what is left to read behind the numbers and the letters so far
 module _ (p : List ℕ) where
   read_end : List ℕ → List ℕ → Read → Option ShortScript
   read_end c e w =
-      option_and_then (accept_script (record { characteristic = p; factor = c; constant = e; letters = w.0 })) (after_text (codes ";" ++ line_feed) w.1)
+      option_and_then (script_at_end (record { characteristic = p; factor = c; constant = e; letters = w.0 })) (after_text (codes ";" ++ line_feed) w.1)
 
   read_product : List ℕ → List ℕ → List ℕ → Option ShortScript
   read_product c e bytes = option_and_then (read_end c e) (read_letters 64 bytes)
@@ -229,7 +216,7 @@ script_from_parts : (s : ShortScript) (b b0 b1 b2 b3 b4 b5 b6 b7 b8 : List ℕ)
 script_from_parts s b b0 b1 b2 b3 b4 b5 b6 b7 b8 f0 f1 f2 f3 f4 f5 f6 f7 f8 f9 =
     rw (f0, f1, f2, f3, f4, f5, f6, f7, f8, f9) refl
 
--- bytes that are read as a script are those of an accepted one
+-- bytes that are read as a script are those of a script
 pub script_bytes-read_script : (bytes : List ℕ) (s : ShortScript) → read_script bytes ≡ Some s → IsShortScript s × (bytes ≡ script_bytes s)
 unfolding read_script read_variables read_factor read_comma read_constant read_setring read_product read_end
 script_bytes-read_script bytes s h =
@@ -246,17 +233,15 @@ script_bytes-read_script bytes s h =
     let b6 = and_then_some (read_product p.0.0 c.0.0 e.0.0) (after_text setring_text e.0.1) s e.2 in
     let w = and_then_some (read_end p.0.0 c.0.0 e.0.0) (read_letters 64 b6.0) s b6.2 in
     let read : ShortScript = record { characteristic = p.0.0; factor = c.0.0; constant = e.0.0; letters = w.0.0 } in
-    let b8 = and_then_some (accept_script read) (after_text end_text w.0.1) s w.2 in
+    let b8 = and_then_some (script_at_end read) (after_text end_text w.0.1) s w.2 in
     let p_is = begins_with_number b0.0 p.0.0 p.0.1 p.1 in
     let c_is = begins_with_number b2.0 c.0.0 c.0.1 c.1 in
     let e_is = begins_with_number b4.0 e.0.0 e.0.1 e.1 in
     let w_is = begins_with_product 64 b6.0 w.0 w.1 in
-    let values = acceptable read s b8.0 b8.2 in
-    let accepted_script : IsShortScript read = record {
+    let ends = at_end read s b8.0 b8.2 in
+    let is_script : IsShortScript read = record {
       characteristic = p_is.0;
-      listed = values.0;
       factor = c_is.0;
-      nonzero = values.1;
       constant = e_is.0;
       some = w_is.some;
       few = w_is.few;
@@ -265,5 +250,5 @@ script_bytes-read_script bytes s h =
     let front = script_from_parts read bytes b0.0 p.0.1 b2.0 c.0.1 b4.0 e.0.1 b6.0 w.0.1 b8.0
     (begins_with_text ring_text bytes b0.0 b0.1) p_is.1 (begins_with_text variables_text p.0.1 b2.0 b2.1) c_is.1
     (begins_with_text (codes ",") c.0.1 b4.0 b4.1) e_is.1 (begins_with_text setring_text e.0.1 b6.0 b6.1) w_is.front
-    (begins_with_text end_text w.0.1 b8.0 b8.1) values.2 in
-    subst (λ t. IsShortScript t × (bytes ≡ script_bytes t)) values.3 (accepted_script, front)
+    (begins_with_text end_text w.0.1 b8.0 b8.1) ends.0 in
+    subst (λ t. IsShortScript t × (bytes ≡ script_bytes t)) ends.1 (is_script, front)

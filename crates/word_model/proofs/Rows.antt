@@ -8,25 +8,37 @@ use Rattle.word_model.specs.Products.{product}
 use Rattle.word_model.specs.Scripts.{line_feed, two_variables, read_script}
 use Rattle.word_model.specs.Conditions.{Fault, relations_fault}
 use Rattle.word_model.specs.Conditions.Fault.{Coefficient, Profile, NonDegeneracy}
-use Rattle.word_model.specs.Answers.{answer_of, script_text, line}
+use Rattle.word_model.specs.Answers.{answer_of, short_answer, script_text, line}
 
 -- d x = x d + 1 modulo 7
 weyl_product : answer_of [] (codes "ring r = 7,(x,d),dp;" ++ (line_feed ++ (codes "def W = nc_algebra(1,1); setring W;" ++ (line_feed ++ (codes "d*x;" ++ line_feed)))))
     ≡ record { text = line (codes "x*d+1"); status = 0 }
-unfolding answer_of script_text read_script product normal_form normal_form_within digits
+unfolding answer_of short_answer script_text read_script product normal_form normal_form_within digits
 weyl_product = refl
 
 -- d^2 x = x d^2 + 2 d modulo 2
 weyl_modulo_two : answer_of [] (codes "ring r = 2,(x,d),dp;" ++ (line_feed ++ (codes "def W = nc_algebra(1,1); setring W;" ++ (line_feed ++ (codes "d*d*x;" ++ line_feed)))))
     ≡ record { text = line (codes "x*d^2"); status = 0 }
-unfolding answer_of script_text read_script product normal_form normal_form_within digits
+unfolding answer_of short_answer script_text read_script product normal_form normal_form_within digits
 weyl_modulo_two = refl
 
 -- a quantum plane: d x^2 = 9 x^2 d modulo 7
 quantum_plane : answer_of [] (codes "ring r = 7,(x,d),dp;" ++ (line_feed ++ (codes "def W = nc_algebra(3,0); setring W;" ++ (line_feed ++ (codes "d*x*x;" ++ line_feed)))))
     ≡ record { text = line (codes "2*x^2*d"); status = 0 }
-unfolding answer_of script_text read_script product normal_form normal_form_within digits
+unfolding answer_of short_answer script_text read_script product normal_form normal_form_within digits
 quantum_plane = refl
+
+-- 4 is not in the table
+no_characteristic : answer_of [] (codes "ring r = 4,(x,d),dp;" ++ (line_feed ++ (codes "def W = nc_algebra(1,1); setring W;" ++ (line_feed ++ (codes "d*x;" ++ line_feed)))))
+    ≡ record { text = line (codes "? line 1: Characteristic 4"); status = 1 }
+unfolding answer_of short_answer read_script digits
+no_characteristic = refl
+
+-- 7 is zero modulo 7
+zero_factor : answer_of [] (codes "ring r = 7,(x,d),dp;" ++ (line_feed ++ (codes "def W = nc_algebra(7,1); setring W;" ++ (line_feed ++ (codes "d*x;" ++ line_feed)))))
+    ≡ record { text = line (codes "? line 2: Coefficient 1 2"); status = 3 }
+unfolding answer_of short_answer read_script digits
+zero_factor = refl
 
 -- no script
 no_form : answer_of [] [] ≡ record { text = line (codes "? Form"); status = 1 }

@@ -42,13 +42,10 @@ pub record IsNumber (digits : List ℕ) : Type 0 where
 abbrev pub digits_value : List ℕ → ℕ
 digits_value digits = fold (λ n b. 10 * n + (b - 48)) 0 digits
 
--- The script is accepted: the characteristic is in the table, the relation's number is not zero modulo it,
--- and the product has 1 to 64 letters.
+-- a script: its three numbers have 1 to 9 digits, and its product 1 to 64 letters
 pub record IsShortScript (s : ShortScript) : Type 0 where
   pub characteristic : IsNumber s.characteristic
-  pub listed : in_table (digits_value s.characteristic) ≡ true
   pub factor : IsNumber s.factor
-  pub nonzero : digits_value s.factor % digits_value s.characteristic ≢ 0
   pub constant : IsNumber s.constant
   pub some : 1 ≤ length s.letters
   pub few : length s.letters ≤ 64
@@ -102,13 +99,10 @@ read_letters (suc k) (b ∷ []) = if is_letter b then Some (b ∷ [], []) else N
 read_letters (suc k) (b ∷ (next ∷ bytes)) =
     if is_letter b then (if next == 42 then with_letter b (read_letters k bytes) else Some (b ∷ [], next ∷ bytes)) else None
 
--- the script, if the values of its numbers are accepted and no byte is left
-abbrev pub accept_script : ShortScript → List ℕ → Option ShortScript
-accept_script s (b ∷ bytes) = None
-accept_script s [] =
-    if in_table (digits_value s.characteristic)
-    && not (digits_value s.factor % digits_value s.characteristic == 0)
-    then Some s else None
+-- the script, if no byte is left
+abbrev pub script_at_end : ShortScript → List ℕ → Option ShortScript
+script_at_end s [] = Some s
+script_at_end s (b ∷ bytes) = None
 
 -- what a script of this form leaves open, read from its bytes: None for any other bytes
 unfoldable pub read_script : List ℕ → Option ShortScript
@@ -122,7 +116,7 @@ read_script bytes =
     option_and_then (λ b6.
     option_and_then (λ (w, b7).
     option_and_then (λ b8.
-    accept_script (record { characteristic = p; factor = c; constant = e; letters = w }) b8)
+    script_at_end (record { characteristic = p; factor = c; constant = e; letters = w }) b8)
     (after_text (codes ";" ++ line_feed) b7))
     (read_letters 64 b6))
     (after_text (codes "); setring W;" ++ line_feed) b5))

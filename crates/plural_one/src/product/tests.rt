@@ -1,11 +1,4 @@
-ghost use Rattle.std.specs.Prelude.{◌≤◌, length};
-ghost use Rattle.word_model.specs.Words.{IsWord};
-
-use super::TwoVariables;
-use gpoly::GPoly;
-use prime_field::Field;
-use std::alloc::Global;
-use std::process::Abort;
+use super::*;
 use std::test::Fail;
 
 // The numbers of d^32 x^32 modulo 32003, by falling degree: k! C(32, k)^2 at x^(32 - k) d^(32 - k).
@@ -15,55 +8,14 @@ const POWERS: [u32; 33] = [
     31728, 14613, 11373, 25814, 27075, 31849,
 ];
 
-// The terms are these, each with its number and the exponents of x and d.
-fn assert_terms(rt: &impl Abort, product: &GPoly, want: &[(u32, u16, u16)]) {
-    assert_eq!(rt; product.terms().len(), want.len());
-    for (term, (coef, x, d)) in product.terms().iter().zip(want) {
-        assert_eq!(rt; term.mono.len(), 2);
-        assert_eq!(rt;
-            (term.coef, term.mono.get(1), term.mono.get(2)),
-            (*coef, *x, *d)
-        );
-    }
-}
-
-// The product of the letters with d x = c x d + e modulo p.
-fn product(alloc: Global, p: u32, c: u32, e: u32, letters: &[u8]) -> Result<GPoly, Fail>
-    requires letters { IsWord 2 letters.now }
-    requires some { 1 ≤ length letters.now }
-    requires few { length letters.now ≤ 4095 }
-{
-    let algebra = TwoVariables::new(alloc, Field::of(p)?, c, e)?;
-    let product = algebra.letters_product(alloc, letters)?;
-    Ok(product)
-}
-
-#[test]
-fn small_products(rt: HostRuntime) -> Result<(), Fail> {
-    let alloc = rt.alloc();
-    assert_terms(
-        &rt,
-        &product(alloc, 7, 1, 1, &[2, 1])?,
-        &[(1, 1, 1), (1, 0, 0)],
-    );
-    assert_terms(&rt, &product(alloc, 2, 1, 1, &[2, 2, 1])?, &[(1, 1, 2)]);
-    assert_terms(&rt, &product(alloc, 7, 3, 0, &[2, 1, 1])?, &[(2, 2, 1)]);
-    // The numbers of a relation are taken modulo the characteristic.
-    assert_terms(
-        &rt,
-        &product(alloc, 7, 10, 4294967295, &[2, 1])?,
-        &[(3, 1, 1), (3, 0, 0)],
-    );
-    Ok(())
-}
-
 #[test]
 fn powers(rt: HostRuntime) -> Result<(), Fail> {
     let alloc = rt.alloc();
-    let weyl = TwoVariables::new(alloc, Field::of(32003)?, 1, 1)?;
+    let field = Field::of(32003)?;
+    let weyl = two_variables(alloc, field, 1, 1)?.expect(&rt, "1 is not zero");
     let mut letters = vec![in alloc; 2; 32]?;
     letters.resize(64, 1)?;
-    let product = weyl.letters_product(alloc, &letters)?;
+    let product = letters_product(alloc, &weyl, &letters)?;
     assert_eq!(rt; product.terms().len(), POWERS.len());
     for (term, coef) in product.terms().iter().zip(&POWERS) {
         assert_eq!(rt; term.coef, *coef);

@@ -39,37 +39,44 @@ fn assert_answer(
     Ok(())
 }
 
-// The characteristic, the factor and the constant of a relation, a product, and its text.
-const PRODUCTS: &str = "\
-7 1 1 d*x x*d+1
-2 1 1 d*d*x x*d^2
-7 3 0 d*x*x 2*x^2*d
-7 1 1 x x
-7 1 1 x*d x*d
-7 1 1 d*d*x x*d^2+2*d
-7 1 6 d*x x*d-1
-7 6 0 d*x -x*d
-7 3 3 d*x 3*x*d+3
-7 4 4 d*x -3*x*d-3
-65521 65520 32760 d*x -x*d+32760
-65521 32761 65520 d*x -32760*x*d-1
-000000007 000000008 15 d*x x*d+1
-251 999999999 0 d*x -65*x*d
+// The characteristic, the factor and the constant of a relation, a product, the status, and the line of text.
+const SCRIPTS: &str = "\
+7 1 1 d*x 0 x*d+1
+2 1 1 d*d*x 0 x*d^2
+7 3 0 d*x*x 0 2*x^2*d
+7 1 1 x 0 x
+7 1 1 x*d 0 x*d
+7 1 1 d*d*x 0 x*d^2+2*d
+7 1 6 d*x 0 x*d-1
+7 6 0 d*x 0 -x*d
+7 3 3 d*x 0 3*x*d+3
+7 4 4 d*x 0 -3*x*d-3
+65521 65520 32760 d*x 0 -x*d+32760
+65521 32761 65520 d*x 0 -32760*x*d-1
+000000007 000000008 15 d*x 0 x*d+1
+251 999999999 0 d*x 0 -65*x*d
+4 1 1 d*x 1 ? line 1: Characteristic 4
+103 0 1 x 1 ? line 1: Characteristic 103
+000000000 1 1 x 1 ? line 1: Characteristic 0
+999999999 1 1 x 1 ? line 1: Characteristic 999999999
+7 7 1 d*x 3 ? line 2: Coefficient 1 2
+7 0 0 x 3 ? line 2: Coefficient 1 2
+65521 131042 1 d*x 3 ? line 2: Coefficient 1 2
 ";
 
 #[test]
-fn answers_products(rt: HostRuntime) -> Result<(), Fail> {
+fn answers_scripts(rt: HostRuntime) -> Result<(), Fail> {
     let alloc = rt.alloc();
-    for row in PRODUCTS.lines() {
-        let fields: Vec<&str> = row.split(' ').collect(alloc)?;
-        let [p, c, e, product, text] = fields.as_slice() else {
-            return Err("a row has five fields".into());
+    for row in SCRIPTS.lines() {
+        let fields: Vec<&str> = row.splitn(6, ' ').collect(alloc)?;
+        let [p, c, e, product, status, text] = fields.as_slice() else {
+            return Err("a row has six fields".into());
         };
         let script = format!(in alloc;
             "ring r = {p},(x,d),dp;\ndef W = nc_algebra({c},{e}); setring W;\n{product};\n"
         )?;
         let line = format!(in alloc; "{text}\n")?;
-        assert_answer(&rt, script.as_bytes(), 0, line.as_str())?;
+        assert_answer(&rt, script.as_bytes(), status.parse()?, line.as_str())?;
     }
     Ok(())
 }
@@ -88,14 +95,11 @@ ring r = 7,(x,d),dp;|def W = nc_algebra(-1,1); setring W;|d*x;|
 ring r = ,(x,d),dp;|def W = nc_algebra(1,1); setring W;|d*x;|
 ring r = 0000000007,(x,d),dp;|def W = nc_algebra(1,1); setring W;|d*x;|
 ring r = 7,(x,d),dp;|def W = nc_algebra(1,0000000001); setring W;|d*x;|
-ring r = 9,(x,d),dp;|def W = nc_algebra(1,1); setring W;|d*x;|
-ring r = 103,(x,d),dp;|def W = nc_algebra(1,1); setring W;|d*x;|
-ring r = 7,(x,d),dp;|def W = nc_algebra(0,1); setring W;|d*x;|
-ring r = 7,(x,d),dp;|def W = nc_algebra(14,1); setring W;|d*x;|
 ring r = 7,(x,d),dp;|def W = nc_algebra(1,1); setring W;|;|
 ring r = 7,(x,d),dp;|def W = nc_algebra(1,1); setring W;|d*x*;|
 ring r = 7,(x,d),dp;|def W = nc_algebra(1,1); setring W;|dx;|
 ring r = 7,(x,d),dp;|def W = nc_algebra(1,1); setring W;|d*y;|
+ring r = 7,(x,d),dp;|def W = nc_algebra(1,1); setring W;|std(d*x);|
 ";
 
 #[test]

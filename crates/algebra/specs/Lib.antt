@@ -1,0 +1,4 @@
+pub mod Presentations
+pub mod Faults
+pub mod Places
+pub mod WordSums

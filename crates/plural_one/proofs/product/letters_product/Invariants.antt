@@ -1,0 +1,5 @@
+use Rattle.plural_one.proofs.Products.{IsProduct}
+use Rattle.plural_one.proofs.product.letters_product.Given as goal
+
+abbrev pub invariant-loop-letter : goal.invariant-loop-letter
+invariant-loop-letter l = IsProduct l.algebra l.letters l.letter-items l.letter-index l.product

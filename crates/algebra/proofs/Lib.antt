@@ -6,3 +6,4 @@ mod Replacing
 mod Testing
 mod OverlapSums
 mod Letterwise
+mod Commuting

@@ -1,10 +1,11 @@
 -- What tests in order report.
-use Rattle.std.proofs.Common.{◌≡◌, ℕ, suc, ◌+◌, ◌<◌, ◌≤◌, Option, None, Some, sym, ap, ◌∙◌}
-use Rattle.word_model.specs.Conditions.{Fault, first_from}
-use Rattle.word_model.proofs.Faults.{first_from-found}
+use Rattle.std.proofs.Common.{◌≡◌, ℕ, suc, ◌+◌, ◌<◌, ◌≤◌, ◌⊎◌, inl, inr, Option, None, Some, sym, ap, ◌∙◌, arith}
+use Rattle.word_model.specs.Words.{Algebra}
+use Rattle.word_model.specs.Conditions.{Fault, first_from, pairs_fault, triples_fault, relations_fault}
+use Rattle.word_model.proofs.Faults.{or_else, first_from-found}
 use Rattle.algebra.specs.declared.AlgebraFault.{AlgebraFault}
 use Rattle.algebra.specs.declared.AlgebraFault.TheVariants.{Coefficient, Profile, Ordering, NonDegeneracy, Memory}
-use Rattle.algebra.specs.Faults.{IsReported}
+use Rattle.algebra.specs.Faults.{IsReported, Reports}
 
 -- a fault that is the first of one test is that of another that has it too
 pub IsReported-moved : (f g : Option Fault) (e : AlgebraFault) → ((x : Fault) → f ≡ Some x → g ≡ Some x) → IsReported f e → IsReported g e
@@ -19,3 +20,31 @@ pub IsReported-first_from : (test : ℕ → Option Fault) (k m i : ℕ) (e : Alg
     → IsReported (test i) e → IsReported (first_from test k m) e
 IsReported-first_from test k m i e low high pass is =
     IsReported-moved (test i) (first_from test k m) e (λ x t. first_from-found test k m i x low high pass t) is
+
+-- one more test that passes
+pub passed_more : (test : ℕ → Option Fault) (a i : ℕ) → ((x : ℕ) → a < x → x < i → test x ≡ None) → test i ≡ None
+    → (x : ℕ) → a < x → x < i + 1 → test x ≡ None
+passed_more test a i pass here x low high = by (before_or_here x i high)
+  where
+    before_or_here : (x i : ℕ) → x < i + 1 → (x < i) ⊎ (x ≡ i)
+    before_or_here x i h = grind arith
+
+    by : (x < i) ⊎ (x ≡ i) → test x ≡ None
+    by (inl before) = pass x low before
+    by (inr same) = ap test same ∙ here
+
+module _ (A : Algebra) where
+  -- a fault of the pairs is the relations'
+  pub Reports-pairs : (e : AlgebraFault) → IsReported (pairs_fault A) e → Reports A e
+  unfolding relations_fault
+  Reports-pairs e is = IsReported-moved (pairs_fault A) (relations_fault A) e (λ x t. ap (λ r. or_else r (triples_fault A)) t) is
+
+  -- where the pairs pass, so is a fault of the triples
+  pub Reports-triples : (e : AlgebraFault) → pairs_fault A ≡ None → IsReported (triples_fault A) e → Reports A e
+  unfolding relations_fault
+  Reports-triples e pass is = IsReported-moved (triples_fault A) (relations_fault A) e (λ x t. ap (λ r. or_else r (triples_fault A)) pass ∙ t) is
+
+  -- where both pass, the relations have no fault
+  pub relations_passed : pairs_fault A ≡ None → triples_fault A ≡ None → relations_fault A ≡ None
+  unfolding relations_fault
+  relations_passed pairs triples = ap (λ r. or_else r (triples_fault A)) pairs ∙ triples

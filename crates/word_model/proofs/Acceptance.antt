@@ -15,7 +15,7 @@ use Rattle.word_model.proofs.Letters.{Each-both}
 use Rattle.word_model.proofs.Ranks.{less_is}
 use Rattle.word_model.proofs.Degrees.{HasDegrees-poly_degree}
 use Rattle.word_model.proofs.LeadingMonomials.{order, NonZero-below, rest_below}
-use Rattle.word_model.proofs.Faults.{no_fault}
+use Rattle.word_model.proofs.Faults.{NoPairFault, no_fault}
 
 -- ---- what the data of an algebra have at each pair
 
@@ -84,17 +84,18 @@ module _ (A : Algebra) where
       (Each-both _ _ (λ t. (degree t.1 ≤ 2) × (order A t.1 (monomial_of A.order.vars (i ∷ j ∷ [])) ≡ Less)) (λ t deg less. (deg, less)) f
       (HasDegrees-poly_degree f 2 low) (all_below i j f h.canonical below))
 
+  -- rewriting leads downwards where no pair has a fault
+  pub IsPaired-passed : IsAlgebraData A → NoPairFault A → IsPaired A
+  IsPaired-passed data_of passed = record {
+    small = λ i j a b c.
+        (let h : PairHolds i j = pair_holds i j (passed i j a b c) in
+        let t : nat_lt 2 (poly_degree (d_of A i j)) ≡ false = h.profile in
+        small_terms i j (d_of A i j) (IsPolynomial-d_of A data_of i j) (grind (arith, nat_tests, t)) h.below);
+  }
+
   module _ (data_of : IsAlgebraData A) (field : IsField A.p) (fault : relations_fault A ≡ None) where
     no_pair : (i j : ℕ) → 1 ≤ i → i < j → j ≤ A.order.vars → PairHolds i j
     no_pair i j a b c = pair_holds i j ((no_fault A fault).0 i j a b c)
-
-    paired : IsPaired A
-    paired = record {
-      small = λ i j a b c.
-          (let h : PairHolds i j = no_pair i j a b c in
-          let t : nat_lt 2 (poly_degree (d_of A i j)) ≡ false = h.profile in
-          small_terms i j (d_of A i j) (IsPolynomial-d_of A data_of i j) (grind (arith, nat_tests, t)) h.below);
-    }
 
     regular : IsRegular A
     regular = record {
@@ -107,7 +108,7 @@ module _ (A : Algebra) where
     pub accepted : IsAccepted A
     accepted = record {
       field = field;
-      paired = paired;
+      paired = IsPaired-passed data_of (no_fault A fault).0;
       regular = regular;
       confluent = record { none = λ i j k a b c d. triple_holds i j k ((no_fault A fault).1 i j k a b c d) };
     }

@@ -7,10 +7,9 @@ ghost use Rattle.word_model.specs.Conditions.{is_below, overlap, pair_fault, pai
 ghost use Rattle.algebra.specs.Faults.{Answers, row_fault, line_fault, plane_fault};
 ghost use Rattle.algebra.specs.WordSums.{words_of, reduced};
 
-use crate::AlgebraFault;
 use crate::presentation::Presentation;
 use crate::rewriting::{WordTerm, push_between};
-use crate::word;
+use crate::{AlgebraFault, word};
 use gpoly::GPoly;
 use std::alloc::{AllocError, Global};
 use std::cmp::Ordering;
@@ -147,13 +146,7 @@ impl Presentation {
     }
 
     // The sum of words whose value that difference is.
-    fn overlap(
-        &self,
-        alloc: Global,
-        i: u8,
-        j: u8,
-        k: u8,
-    ) -> Result<Vec<WordTerm>, AllocError>
+    fn overlap(&self, alloc: Global, i: u8, j: u8, k: u8) -> Result<Vec<WordTerm>, AllocError>
         requires first { 1 ≤ i }
         requires second { i < j }
         requires third { j < k }
@@ -171,7 +164,15 @@ impl Presentation {
         push_between(alloc, &mut words, field, c_jk, &[j], d_ik, &[])?;
         push_between(alloc, &mut words, field, field.neg(c_ij), &[], d_ik, &[j])?;
         push_between(alloc, &mut words, field, 1, &[], d_jk, &[i])?;
-        push_between(alloc, &mut words, field, field.neg(c_ij_ik), &[i], d_jk, &[])?;
+        push_between(
+            alloc,
+            &mut words,
+            field,
+            field.neg(c_ij_ik),
+            &[i],
+            d_jk,
+            &[],
+        )?;
         Ok(words)
     }
 }

@@ -10,14 +10,14 @@ ghost use Rattle.algebra.specs.Faults.{Reports};
 
 use gpoly::GPoly;
 use monomials::Order;
-use prime_field::Field;
 use presentation::Presentation;
+use prime_field::Field;
 use std::alloc::{AllocError, Global};
 use std::marker::Model;
 
 mod conditions;
-mod product;
 mod presentation;
+mod product;
 mod rewriting;
 mod word;
 
@@ -108,16 +108,10 @@ impl Algebra {
         requires polynomials { Each (IsPolynomial field order) rel.d.items }
         requires one_number_each { 2 * length rel.c.items ≡ n * (n - 1) }
         requires one_polynomial_each { length rel.d.items ≡ length rel.c.items }
-        ensures algebra {
-            IfOk result (λ a. a ≡ record { p = field; order = order; c = rel.c.items; d = rel.d.items })
-        }
-        ensures accepted {
-            OnOk result (relations_fault
-                (record { p = field; order = order; c = rel.c.items; d = rel.d.items }) ≡ None)
-        }
-        ensures fault {
-            IfErr result (Reports (record { p = field; order = order; c = rel.c.items; d = rel.d.items }))
-        }
+        ensures algebra { IfOk result (λ a. a ≡ record { p = field; order = order; c = rel.c.items; d = rel.d.items }) }
+        ensures accepted { OnOk result (relations_fault
+            (record { p = field; order = order; c = rel.c.items; d = rel.d.items }) ≡ None) }
+        ensures fault { IfErr result (Reports (record { p = field; order = order; c = rel.c.items; d = rel.d.items })) }
     {
         let presentation = Presentation::of(field, order, n, rel);
         presentation.test_pairs()?;
@@ -133,11 +127,9 @@ impl Algebra {
         n: usize,
     ) -> Result<Algebra, AllocError>
         requires { order.vars ≡ n }
-        ensures {
-            let pairs = n * (n - 1) / 2 in
+        ensures { let pairs = n * (n - 1) / 2 in
             IfOk result (λ a.
-                a ≡ record { p = field; order = order; c = replicate pairs 1; d = replicate pairs [] })
-        }
+            a ≡ record { p = field; order = order; c = replicate pairs 1; d = replicate pairs [] }) }
     {
         let rel = Relations::commuting(alloc, n)?;
         let presentation = Presentation::of(field, order, n, rel);

@@ -7,8 +7,7 @@ ghost use Rattle.gpoly.specs.Terms.{pair_of};
 ghost use Rattle.word_model.specs.Products.{product, variable_polynomial, in_reach};
 
 use crate::rewriting::push_between;
-use crate::word;
-use crate::{Algebra, ProductFault};
+use crate::{Algebra, ProductFault, word};
 use gpoly::{GPoly, Term};
 use std::alloc::{AllocError, Global};
 
@@ -27,12 +26,7 @@ fn in_reach(f: &GPoly, g: &GPoly) -> bool
 impl Algebra {
     /// The product. `DegreeOver` comes exactly where both factors are nonzero and their degrees add
     /// up to more than 4095.
-    pub fn plain_product(
-        &self,
-        alloc: Global,
-        f: &GPoly,
-        g: &GPoly,
-    ) -> Result<GPoly, ProductFault>
+    pub fn plain_product(&self, alloc: Global, f: &GPoly, g: &GPoly) -> Result<GPoly, ProductFault>
         requires f_sorted { IsPolynomial self.now.p self.now.order f.now }
         requires g_sorted { IsPolynomial self.now.p self.now.order g.now }
         ensures value { IfOk result (λ r. r ≡ product self.now f.now g.now) }
@@ -88,9 +82,7 @@ impl Algebra {
         requires first { 1 ≤ letter }
         requires last { letter ≤ self.now.order.vars }
         requires within { poly_degree f.now < 4095 }
-        ensures value {
-            IfOk result (λ r. r ≡ product self.now f.now (variable_polynomial self.now letter))
-        }
+        ensures value { IfOk result (λ r. r ≡ product self.now f.now (variable_polynomial self.now letter)) }
         ensures sorted { IfOk result (λ r. IsPolynomial self.now.p self.now.order r) }
     {
         let _n = self.n();

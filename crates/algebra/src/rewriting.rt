@@ -69,10 +69,8 @@ impl Presentation {
     ) -> Result<Vec<Term>, AllocError>
         requires paired { IsPaired self.now }
         requires pending { IsPending self.now.p self.now.order.vars (words_of pending.items) }
-        ensures value {
-            IfOk result (λ r. from_terms (order_cmp self.now.order.rows) self.now.p (pairs_of r.items)
-                ≡ word_value self.now (words_of pending.items))
-        }
+        ensures value { IfOk result (λ r. from_terms (order_cmp self.now.order.rows) self.now.p (pairs_of r.items)
+            ≡ word_value self.now (words_of pending.items)) }
         ensures numbers { IfOk result (λ r. HasNumbers self.now.p (pairs_of r.items)) }
         ensures vars { IfOk result (λ r. HasVars self.now.order.vars (pairs_of r.items)) }
         ensures small { IfOk result (λ r. Each (λ t. degree t.1 ≤ 4095) (pairs_of r.items)) }
@@ -105,19 +103,23 @@ impl Presentation {
         requires in_range { term.coef < self.now.p }
         requires word { IsWord self.now.order.vars term.word.items }
         requires inside { place + 1 < length term.word.items }
-        requires descent {
-            leftmost_descent term.word.items ≡ Some (descent_at place term.word.items)
-        }
-        ensures {
-            OnOk result (words_of pending.new.items ≡ words_of pending.old.items
-                ++ replacement self.now term.coef (descent_at place term.word.items))
-        }
+        requires descent { leftmost_descent term.word.items ≡ Some (descent_at place term.word.items) }
+        ensures { OnOk result (words_of pending.new.items ≡ words_of pending.old.items
+            ++ replacement self.now term.coef (descent_at place term.word.items)) }
     {
         let field = self.field();
         let (high, low) = (term.word[place], term.word[place + 1]);
         let front = &term.word[..place];
         let back = &term.word[place + 2..];
-        push_between(alloc, pending, field, term.coef, front, self.d(low, high), back)?;
+        push_between(
+            alloc,
+            pending,
+            field,
+            term.coef,
+            front,
+            self.d(low, high),
+            back,
+        )?;
         term.word.swap(place, place + 1);
         term.coef = field.mul(term.coef, self.c(low, high));
         pending.push(term)?;

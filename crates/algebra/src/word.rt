@@ -21,12 +21,7 @@ pub fn leftmost_descent(word: &[u8]) -> Option<usize>
 }
 
 /// The sorted word of a monomial, with a word before it and one behind it.
-pub fn around(
-    alloc: Global,
-    front: &[u8],
-    mono: &Expo,
-    back: &[u8],
-) -> Result<Vec<u8>, AllocError>
+pub fn around(alloc: Global, front: &[u8], mono: &Expo, back: &[u8]) -> Result<Vec<u8>, AllocError>
     ensures { IfOk result (λ w. w.items ≡ front.now ++ (sorted_word mono.now ++ back.now)) }
 {
     let mut word = Vec::from_slice(alloc, front)?;

@@ -182,3 +182,6 @@ impl Algebra {
         self.presentation.d(i, j)
     }
 }
+
+#[cfg(test)]
+mod tests;

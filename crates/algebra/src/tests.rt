@@ -1,54 +1,76 @@
+//! Worked products and refused relations. Tables are texts: a polynomial in x, y and z is its terms, each a number
+//! and the three digits of its exponents.
+
 ghost use Rattle.std.specs.Prelude.{◌≡◌, ◌≤◌, length, IfOk};
 ghost use Rattle.monomials.specs.Monomials.{degree};
 ghost use Rattle.monomials.specs.Polynomials.{IsPolynomial};
 
 use super::*;
 use gpoly::Term;
-use monomials::{Block, Expo, OrderFault};
+use monomials::{Block, Expo};
 use std::test::Fail;
 
-// A number, and the exponents of x, y and z.
-type TermData = (u64, [u8; 3]);
-
-fn order(alloc: Global) -> Result<Order, OrderFault>
+// The order dp in three variables.
+fn order(alloc: Global) -> Result<Order, Fail>
     ensures { IfOk result (λ o. o.vars ≡ 3) }
 {
-    Order::new(alloc, &[Block::DegRev { len: 3 }], 3)
+    let order = Order::new(alloc, &[Block::DegRev { len: 3 }], 3)?;
+    Ok(order)
 }
 
-fn monomial(exps: [u8; 3]) -> Expo
+// The monomial with these digits as exponents.
+fn monomial(x: u8, y: u8, z: u8) -> Expo
     ensures vars { length result ≡ 3 }
     ensures small { degree result ≤ 4095 }
 {
-    let [x, y, z] = exps;
-    Expo::of(&[u16::from(x), u16::from(y), u16::from(z)])
+    let digit = |byte: u8| u16::from(byte.saturating_sub(b'0'));
+    Expo::of(&[digit(x), digit(y), digit(z)])
 }
 
-fn poly(alloc: Global, field: Field, order: &Order, data: &[TermData]) -> Result<GPoly, AllocError>
+// The polynomial with one term, as `2:100` for 2 x.
+fn term(alloc: Global, field: Field, order: &Order, text: &str) -> Result<GPoly, Fail>
     requires { order.now.vars ≡ 3 }
     ensures { IfOk result (λ f. IsPolynomial field order.now f) }
 {
-    let mut terms = Vec::new(alloc);
-    for (number, exps) in data {
-        terms.push(Term {
-            coef: field.from_int(*number),
-            mono: monomial(*exps),
-        })?;
+    let (number, exponents) = text.split_once(':').ok_or("a term has a colon")?;
+    let [x, y, z] = exponents.as_bytes() else {
+        return Err("a term has three exponents".into());
+    };
+    let coef = field.from_int(number.parse::<u64>()?);
+    let mono = monomial(*x, *y, *z);
+    let term = GPoly::from_terms(alloc, field, order, &[Term { coef, mono }])?;
+    Ok(term)
+}
+
+// The sum of the terms, as `1:110 1:000` for x y + 1.
+fn poly(alloc: Global, field: Field, order: &Order, text: &str) -> Result<GPoly, Fail>
+    requires { order.now.vars ≡ 3 }
+    ensures { IfOk result (λ f. IsPolynomial field order.now f) }
+{
+    let mut sum = GPoly::zero(alloc);
+    for piece in text.split(' ') {
+        let part = term(alloc, field, order, piece)?;
+        sum = sum.add(alloc, field, order, &part)?;
     }
-    GPoly::from_terms(alloc, field, order, &terms)
+    Ok(sum)
+}
+
+// Three numbers, as `1 1 1`.
+fn three(text: &str) -> Result<[u64; 3], Fail> {
+    let (first, others) = text.split_once(' ').ok_or("there are three numbers")?;
+    let (second, third) = others.split_once(' ').ok_or("there are three numbers")?;
+    Ok([first.parse()?, second.parse()?, third.parse()?])
 }
 
 // The algebra with these numbers and polynomials of the pairs (1, 2), (1, 3) and (2, 3).
 fn algebra(
     alloc: Global,
     field: Field,
-    order: Order,
-    c: [u64; 3],
-    d: [&[TermData]; 3],
-) -> Result<Algebra, AlgebraFault>
-    requires { order.vars ≡ 3 }
-{
-    let [c_12, c_13, c_23] = c;
+    c: &str,
+    d: [&str; 3],
+) -> Result<Result<Algebra, AlgebraFault>, Fail> {
+    let order = order(alloc)?;
+    let [c_12, c_13, c_23] = three(c)?;
     let [d_12, d_13, d_23] = d;
     let d_12 = poly(alloc, field, &order, d_12)?;
     let d_13 = poly(alloc, field, &order, d_13)?;
@@ -58,107 +80,86 @@ fn algebra(
         field.from_int(c_13),
         field.from_int(c_23),
     ];
-    let c = Vec::from_array(alloc, c).map_err(AllocError::from)?;
+    let c = Vec::from_array(alloc, c)?;
     let d = Vec::from_array(alloc, [d_12, d_13, d_23]).map_err(AllocError::from)?;
-    Algebra::new(alloc, field, order, 3, Relations { c, d })
+    Ok(Algebra::new(alloc, field, order, 3, Relations { c, d }))
 }
+
+// The numbers and polynomials of the pairs over the field with 32003 elements, two factors, and their product.
+// y x = x y + 1; then sl2 in e, f, h with f e = e f - h, h e = e h + 2 e, h f = f h - 2 f; then y x = 3 x y.
+const PRODUCTS: &str = "\
+1 1 1|1:000|0:000|0:000|1:010|1:100|1:110 1:000
+1 1 1|1:000|0:000|0:000|1:020|1:100|1:120 2:010
+1 1 1|32002:001|2:100|32001:010|1:020|1:100|1:120 32001:011 2:010
+3 1 1|0:000|0:000|0:000|1:010 1:001|1:200|9:210 1:201
+3 1 1|0:000|0:000|0:000|1:100|5:010|5:110
+3 1 1|0:000|0:000|0:000|1:100|0:000|0:000";
 
 #[test]
 fn multiplies(rt: HostRuntime) -> Result<(), Fail> {
     let alloc = rt.alloc();
     let field = Field::of(32003)?;
-    let one: &[TermData] = &[(1, [0, 0, 0])];
-    // y x = x y + 1.
-    let weyl = algebra(alloc, field, order(alloc)?, [1, 1, 1], [one, &[], &[]])?;
-    // e, f, h, with f e = e f - h, h e = e h + 2 e, h f = f h - 2 f.
-    let minus_h: &[TermData] = &[(32002, [0, 0, 1])];
-    let two_e: &[TermData] = &[(2, [1, 0, 0])];
-    let minus_two_f: &[TermData] = &[(32001, [0, 1, 0])];
-    let sl2 = algebra(
-        alloc,
-        field,
-        order(alloc)?,
-        [1, 1, 1],
-        [minus_h, two_e, minus_two_f],
-    )?;
-    // y x = 3 x y.
-    let quantum = algebra(alloc, field, order(alloc)?, [3, 1, 1], [&[], &[], &[]])?;
-    let cases: [(&Algebra, &[TermData], &[TermData], &[TermData]); 6] = [
-        (
-            &weyl,
-            &[(1, [0, 1, 0])],
-            &[(1, [1, 0, 0])],
-            &[(1, [1, 1, 0]), (1, [0, 0, 0])],
-        ),
-        (
-            &weyl,
-            &[(1, [0, 2, 0])],
-            &[(1, [1, 0, 0])],
-            &[(1, [1, 2, 0]), (2, [0, 1, 0])],
-        ),
-        (
-            &sl2,
-            &[(1, [0, 2, 0])],
-            &[(1, [1, 0, 0])],
-            &[(1, [1, 2, 0]), (32001, [0, 1, 1]), (2, [0, 1, 0])],
-        ),
-        (
-            &quantum,
-            &[(1, [0, 1, 0]), (1, [0, 0, 1])],
-            &[(1, [2, 0, 0])],
-            &[(9, [2, 1, 0]), (1, [2, 0, 1])],
-        ),
-        (
-            &quantum,
-            &[(1, [1, 0, 0])],
-            &[(5, [0, 1, 0])],
-            &[(5, [1, 1, 0])],
-        ),
-        (&quantum, &[(1, [1, 0, 0])], &[], &[]),
-    ];
-    for (i, (algebra, f, g, want)) in cases.iter().enumerate() {
+    for row in PRODUCTS.lines() {
+        let fields: Vec<&str> = row.split('|').collect(alloc)?;
+        let [c, d_12, d_13, d_23, f, g, want] = fields.as_slice() else {
+            return Err("a row has seven fields".into());
+        };
+        let algebra = algebra(alloc, field, c, [d_12, d_13, d_23])??;
         assert_eq!(rt; algebra.n(), 3);
         let (field, order) = (algebra.field(), algebra.order());
         let f = poly(alloc, field, order, f)?;
         let g = poly(alloc, field, order, g)?;
         let want = poly(alloc, field, order, want)?;
         let product = algebra.plain_product(alloc, &f, &g)?;
-        assert!(rt; product.equals(&want), "case {i}: {product:?}");
+        assert!(rt; product.equals(&want), "{row}: {product:?}");
     }
     Ok(())
+}
+
+// The numbers and polynomials of the pairs over the field with 7 elements, and the first fault.
+const FAULTS: &str = "\
+1 1 1|1:001|0:000|1:010|NonDegeneracy 1 2 3 1:001
+1 1 0|1:001|0:000|1:010|Coefficient 2 3
+1 1 0|1:200|0:000|0:000|Ordering 1 2
+1 1 0|0:000|1:030|0:000|Profile 1 3
+0 1 1|1:030|0:000|0:000|Coefficient 1 2
+1 1 1|0:000|0:000|0:000|none
+2 3 4|0:000|0:000|0:000|none";
+
+// A fault's name, the numbers of its variables, and its rest, which is one term here.
+fn fault_text(alloc: Global, fault: &AlgebraFault) -> Result<String, AllocError> {
+    match fault {
+        AlgebraFault::Coefficient { i, j } => format!(in alloc; "Coefficient {i} {j}"),
+        AlgebraFault::Profile { i, j } => format!(in alloc; "Profile {i} {j}"),
+        AlgebraFault::Ordering { i, j } => format!(in alloc; "Ordering {i} {j}"),
+        AlgebraFault::NonDegeneracy { i, j, k, rest } => {
+            let mut text = format!(in alloc; "NonDegeneracy {i} {j} {k}")?;
+            for term in rest.terms() {
+                write!(text, " {}:", term.coef)?;
+                for v in 1..=term.mono.len() as u8 {
+                    write!(text, "{}", term.mono.get(v))?;
+                }
+            }
+            Ok(text)
+        }
+        AlgebraFault::Memory => format!(in alloc; "Memory"),
+    }
 }
 
 #[test]
 fn refuses_the_first_fault(rt: HostRuntime) -> Result<(), Fail> {
     let alloc = rt.alloc();
     let field = Field::of(7)?;
-    let y: &[TermData] = &[(1, [0, 1, 0])];
-    let z: &[TermData] = &[(1, [0, 0, 1])];
-    let x_squared: &[TermData] = &[(1, [2, 0, 0])];
-    let y_cubed: &[TermData] = &[(1, [0, 3, 0])];
-    let cases: [([u64; 3], [&[TermData]; 3], &str); 7] = [
-        ([1, 1, 1], [z, &[], y], "NonDegeneracy 1 2 3 z"),
-        ([1, 1, 0], [z, &[], y], "Coefficient 2 3"),
-        ([1, 1, 0], [x_squared, &[], &[]], "Ordering 1 2"),
-        ([1, 1, 0], [&[], y_cubed, &[]], "Profile 1 3"),
-        ([0, 1, 1], [y_cubed, &[], &[]], "Coefficient 1 2"),
-        ([1, 1, 1], [&[], &[], &[]], "none"),
-        ([2, 3, 4], [&[], &[], &[]], "none"),
-    ];
-    for (i, (c, d, want)) in cases.iter().enumerate() {
-        let got = match algebra(alloc, field, order(alloc)?, *c, *d) {
-            Ok(_) => format!(in alloc; "none")?,
-            Err(AlgebraFault::Coefficient { i, j }) => format!(in alloc; "Coefficient {i} {j}")?,
-            Err(AlgebraFault::Profile { i, j }) => format!(in alloc; "Profile {i} {j}")?,
-            Err(AlgebraFault::Ordering { i, j }) => format!(in alloc; "Ordering {i} {j}")?,
-            Err(AlgebraFault::NonDegeneracy { i, j, k, rest }) => {
-                let z = poly(alloc, field, &order(alloc)?, z)?;
-                assert!(rt; rest.equals(&z), "{rest:?}");
-                format!(in alloc; "NonDegeneracy {i} {j} {k} z")?
-            }
-            Err(AlgebraFault::Memory) => format!(in alloc; "Memory")?,
+    for row in FAULTS.lines() {
+        let fields: Vec<&str> = row.split('|').collect(alloc)?;
+        let [c, d_12, d_13, d_23, want] = fields.as_slice() else {
+            return Err("a row has five fields".into());
         };
-        assert_eq!(rt; got.as_str(), *want, "case {i}");
+        let got = match algebra(alloc, field, c, [d_12, d_13, d_23])? {
+            Ok(_) => String::from_str(alloc, "none")?,
+            Err(fault) => fault_text(alloc, &fault)?,
+        };
+        assert_eq!(rt; got.as_str(), *want);
     }
     Ok(())
 }

@@ -4,20 +4,15 @@ use Rattle.std.proofs.lemmas.List.{map-append, take_more, drop_more}
 use Rattle.monomials.specs.Monomials.{Monomial, degree}
 use Rattle.monomials.specs.Orders.{order_cmp}
 use Rattle.monomials.specs.Polynomials.{Polynomial, Each, HasVars, IsPolynomial, poly_add, poly_scale, poly_degree}
-use Rattle.monomials.proofs.Modulo.{Same, same_refl}
-use Rattle.monomials.proofs.Weights.{weigh, weigh-times}
-use Rattle.monomials.proofs.Canonical.{same_poly}
-use Rattle.monomials.proofs.OrderLaws.{order_cmp_total, order_cmp_tied}
 use Rattle.monomials.proofs.Keys.{Each-append, Each-weaker, EachKey-poly_scale}
 use Rattle.gpoly.specs.declared.Term.{Term}
 use Rattle.gpoly.specs.Terms.{pair_of, pairs_of}
 use Rattle.word_model.specs.Words.{Algebra, Word, IsWord, sorted_word, word_value, IsPaired}
-use Rattle.word_model.specs.Products.{product, variable_polynomial, times_letters}
-use Rattle.word_model.specs.Conditions.{times_words}
+use Rattle.word_model.specs.Products.{product, variable_polynomial, times_letters, with_letter}
 use Rattle.word_model.proofs.Letters.{Each-map, Each-both, IsWord-sorted_word, length-word_from}
-use Rattle.word_model.proofs.NormalForms.{word_weight, weigh-word_value, word_value_is_polynomial, product_is_polynomial}
+use Rattle.word_model.proofs.NormalForms.{product-variable}
 use Rattle.word_model.proofs.Degrees.{HasDegrees-poly_degree, poly_degree-le}
-use Rattle.word_model.proofs.TermProducts.{poly_degree-variable, weigh-variable, product-append}
+use Rattle.word_model.proofs.TermProducts.{poly_degree-variable, product-append}
 use Rattle.algebra.specs.WordSums.{between, reduced}
 use Rattle.algebra.proofs.OverlapSums.{IsFit, word_value-reduced}
 
@@ -34,14 +29,11 @@ letter_fits n v f vars small low high =
 pub letter_value : (A : Algebra) → 1 < A.p → (f : Polynomial) (v : ℕ) → 1 ≤ v
     → word_value A (reduced A.p (between 1 [] f (v ∷ []))) ≡ product A f (variable_polynomial A v)
 letter_value A above_one f v low =
-    let words = between 1 [] f (v ∷ []) in
-    word_value-reduced A above_one words
-    ∙ same_poly (order_cmp A.order.rows) (order_cmp_total A.order.rows) (order_cmp_tied A.order.rows) A.p _ _
-    (word_value_is_polynomial A above_one words).canonical (product_is_polynomial A above_one f (variable_polynomial A v)).canonical
-    (λ φ.
-    weigh-word_value A φ words
-    ∙ same_refl A.p _ _ (weigh-times (word_weight A φ) 1 (λ m. sorted_word m ++ v ∷ []) f ∙ omega arith)
-    ∙ sym (weigh-variable A above_one φ f v low))
+    word_value-reduced A above_one (between 1 [] f (v ∷ [])) ∙ ap (word_value A) (once f) ∙ sym (product-variable A above_one f v low)
+  where
+    once : (f : Polynomial) → between 1 [] f (v ∷ []) ≡ with_letter v f
+    once [] = refl
+    once (t ∷ f) = let one : 1 * t.0 ≡ t.0 = omega arith in λ i. (one i, sorted_word t.1 ++ v ∷ []) ∷ once f i
 
 -- a multiple has no greater degree
 pub poly_degree-poly_scale : (p k : ℕ) (f : Polynomial) → poly_degree (poly_scale p k f) ≤ poly_degree f

@@ -2,16 +2,13 @@
 use Rattle.std.proofs.Common.{◌≡◌, ℕ, zero, suc, ◌+◌, ◌-◌, ◌*◌, ◌%◌, ◌<◌, ◌≤◌, List, [], ◌∷◌, ◌++◌, length, refl, sym, ap, ◌∙◌, arith, append_assoc, append-nil, length-append, mod-lt}
 use Rattle.std.proofs.Math.Nat.{mod_self, zero-mod}
 use Rattle.monomials.specs.Monomials.{Monomial, degree}
-use Rattle.monomials.specs.Orders.{order_cmp}
 use Rattle.monomials.specs.Polynomials.{Polynomial, Each}
 use Rattle.monomials.proofs.Modulo.{Same, same_refl, same_mul, same_rest, same_cancel, same_none}
-use Rattle.monomials.proofs.Canonical.{same_poly}
-use Rattle.monomials.proofs.OrderLaws.{order_cmp_total, order_cmp_tied}
 use Rattle.monomials.proofs.Keys.{Each-append, Each-weaker}
 use Rattle.word_model.specs.Words.{Algebra, Word, WordSum, IsWord, IsSmall, sorted_word, c_of, d_of, word_value, IsPaired}
 use Rattle.word_model.specs.Conditions.{times_words, overlap}
 use Rattle.word_model.proofs.Letters.{Each-map, IsWord-sorted_word, length-word_from}
-use Rattle.word_model.proofs.NormalForms.{word_weight, weigh-word_value, word_value_is_polynomial}
+use Rattle.word_model.proofs.NormalForms.{word_weight, weigh-word_value, word_value_is_polynomial, same_weights}
 use Rattle.algebra.specs.WordSums.{reduced, between, IsPending}
 use Rattle.algebra.proofs.Sums.{weigh-reduced, reduced-times_words, reduced-append}
 
@@ -25,8 +22,7 @@ same_negative p c pos le =
 -- the value of a sum does not depend on multiples of p in its numbers
 pub word_value-reduced : (A : Algebra) → 1 < A.p → (f : WordSum) → word_value A (reduced A.p f) ≡ word_value A f
 word_value-reduced A above_one f =
-    same_poly (order_cmp A.order.rows) (order_cmp_total A.order.rows) (order_cmp_tied A.order.rows) A.p _ _
-    (word_value_is_polynomial A above_one (reduced A.p f)).canonical (word_value_is_polynomial A above_one f).canonical
+    same_weights A (word_value A (reduced A.p f)) (word_value A f) (word_value_is_polynomial A above_one (reduced A.p f)) (word_value_is_polynomial A above_one f)
     (λ φ. weigh-word_value A φ (reduced A.p f) ∙ weigh-reduced A.p (word_weight A φ) f ∙ sym (weigh-word_value A φ f))
 
 -- sums that are pushed one after another

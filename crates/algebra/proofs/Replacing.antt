@@ -6,14 +6,14 @@ use Rattle.monomials.specs.Orders.{order_cmp}
 use Rattle.monomials.specs.Polynomials.{Polynomial, Each, HasNumbers, HasVars, from_terms}
 use Rattle.monomials.proofs.Modulo.{Same, same_refl, same_add, same_mul, same_mul_right, same_rest}
 use Rattle.monomials.proofs.Weights.{weigh, weigh-append, weigh-times, weigh-from_terms}
-use Rattle.monomials.proofs.Canonical.{same_poly, IsCanonical-from_terms}
+use Rattle.monomials.proofs.Operations.{IsPolynomial-from_terms}
 use Rattle.monomials.proofs.Keys.{Each-append, Each-first, Each-second, Each-weaker}
-use Rattle.monomials.proofs.OrderLaws.{order_cmp_total, order_cmp_tied}
+use Rattle.monomials.proofs.OrderLaws.{order_cmp_tied}
 use Rattle.word_model.specs.Words.{Algebra, Word, WordSum, IsWord, monomial_of, sorted_word, Descent, leftmost_descent, rewritten, c_of, d_of, pair_index, word_value, IsPaired}
 use Rattle.word_model.proofs.Letters.{Each-map, degree-monomial_of, length-counts_from}
 use Rattle.word_model.proofs.Descents.{word_of, found_descent}
 use Rattle.word_model.proofs.Termination.{measure, IsLess, normal_form-sorted}
-use Rattle.word_model.proofs.NormalForms.{word_weight, word_weight-descent, weigh-word_value, word_value_is_polynomial}
+use Rattle.word_model.proofs.NormalForms.{word_weight, word_weight-descent, weigh-word_value, word_value_is_polynomial, same_weights}
 use Rattle.word_model.proofs.Rules.{rule_of, weigh-rewritten}
 use Rattle.word_model.proofs.Induction.{less_swapped, less_replaced}
 use Rattle.algebra.specs.Places.{with_swapped}
@@ -195,9 +195,8 @@ module _ (A : Algebra) where
   -- all words are sorted: the terms add up to the value of the sum
   pub finish : 1 < A.p → (start : WordSum) (sorted : Polynomial) → IsRewriting start [] sorted → from_terms (order_cmp A.order.rows) A.p sorted ≡ word_value A start
   finish above_one start sorted h =
-      same_poly (order_cmp A.order.rows) (order_cmp_total A.order.rows) (order_cmp_tied A.order.rows) A.p (from_terms (order_cmp A.order.rows) A.p sorted) (word_value A start)
-      (IsCanonical-from_terms (order_cmp A.order.rows) (order_cmp_total A.order.rows) (order_cmp_tied A.order.rows) A.p (omega arith) sorted)
-      (word_value_is_polynomial A above_one start).canonical
+      same_weights A (from_terms (order_cmp A.order.rows) A.p sorted) (word_value A start)
+      (IsPolynomial-from_terms A.p A.order (omega arith) sorted h.vars) (word_value_is_polynomial A above_one start)
       (λ φ.
       let none : weigh φ sorted ≡ weigh (word_weight A φ) [] + weigh φ sorted = omega arith in
       weigh-from_terms (order_cmp A.order.rows) (order_cmp_tied A.order.rows) A.p φ sorted ∙ same_refl A.p _ _ none ∙ h.weights φ ∙ sym (weigh-word_value A φ start))

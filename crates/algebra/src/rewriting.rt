@@ -111,15 +111,8 @@ impl Presentation {
         let (high, low) = (term.word[place], term.word[place + 1]);
         let front = &term.word[..place];
         let back = &term.word[place + 2..];
-        push_between(
-            alloc,
-            pending,
-            field,
-            term.coef,
-            front,
-            self.d(low, high),
-            back,
-        )?;
+        let d = self.d(low, high);
+        push_between(alloc, pending, field, term.coef, front, d, back)?;
         term.word.swap(place, place + 1);
         term.coef = field.mul(term.coef, self.c(low, high));
         pending.push(term)?;

@@ -4,18 +4,17 @@ use Rattle.monomials.specs.Monomials.{Monomial, degree, variable}
 use Rattle.monomials.specs.Orders.{order_cmp}
 use Rattle.monomials.specs.Polynomials.{Polynomial, HasVars, IsPolynomial, poly_add, poly_scale, poly_degree, sum_over}
 use Rattle.monomials.proofs.Modulo.{Same, same_refl, same_add}
-use Rattle.monomials.proofs.Weights.{weigh, weigh-append, weigh-sum, weigh-scaled, weigh_equal, weigh_alike_on, weigh-poly_scale, weigh-poly_add}
-use Rattle.monomials.proofs.Canonical.{same_poly}
-use Rattle.monomials.proofs.OrderLaws.{order_cmp_total, order_cmp_tied}
+use Rattle.monomials.proofs.Weights.{weigh, weigh-append, weigh-sum, weigh-scaled, weigh_equal, weigh-map_key, weigh_alike_on, weigh-poly_scale, weigh-poly_add}
+use Rattle.monomials.proofs.OrderLaws.{order_cmp_tied}
 use Rattle.monomials.proofs.Keys.{Each-append, Each-weaker, HasVars-poly_scale}
 use Rattle.monomials.proofs.Operations.{IsPolynomial-poly_add, IsPolynomial-poly_scale}
 use Rattle.word_model.specs.Words.{Algebra, Word, IsWord, sorted_word, normal_form, IsPaired}
-use Rattle.word_model.specs.Products.{product, variable_polynomial, times_letters}
+use Rattle.word_model.specs.Products.{product, variable_polynomial, times_letters, with_letter}
 use Rattle.word_model.specs.Conditions.{IsConfluent}
 use Rattle.word_model.proofs.Letters.{IsWord-sorted_word, monomial_of-sorted_word, sorted_word-variable, length-word_from}
 use Rattle.word_model.proofs.Descents.{leftmost_descent-sorted_word}
 use Rattle.word_model.proofs.Termination.{normal_form-sorted}
-use Rattle.word_model.proofs.NormalForms.{word_weight, row_weight, weigh-product, product_is_polynomial}
+use Rattle.word_model.proofs.NormalForms.{word_weight, row_weight, weigh-word_value, weigh-product, product_is_polynomial, same_weights, product-variable}
 use Rattle.word_model.proofs.Degrees.{poly_degree-product}
 use Rattle.word_model.proofs.Associativity.{length-variable, first_part}
 
@@ -39,14 +38,10 @@ poly_degree-variable A paired f v vars low high =
     omega (arith, poly_degree-product A paired f (variable_polynomial A v) vars (length-variable A.order.vars v low high, tt), degree-variable A.order.vars v low)
 
 module _ (A : Algebra) (above_one : 1 < A.p) where
-  equal : (f g : Polynomial) → IsPolynomial A.p A.order f → IsPolynomial A.p A.order g
-      → ((φ : Monomial → ℕ) → Same A.p (weigh φ f) (weigh φ g)) → f ≡ g
-  equal f g hf hg e = same_poly (order_cmp A.order.rows) (order_cmp_total A.order.rows) (order_cmp_tied A.order.rows) A.p f g hf.canonical hg.canonical e
-
   -- the product with two lists of terms, one after the other
   pub product-append : (f g h : Polynomial) → product A f (g ++ h) ≡ poly_add (order_cmp A.order.rows) A.p (product A f g) (product A f h)
   product-append f g h =
-      equal _ _ (product_is_polynomial A above_one f (g ++ h))
+      same_weights A _ _ (product_is_polynomial A above_one f (g ++ h))
       (IsPolynomial-poly_add A.p A.order (omega arith) (product A f g) (product A f h) (product_is_polynomial A above_one f g) (product_is_polynomial A above_one f h))
       (λ φ.
       weigh-product A φ f (g ++ h)
@@ -68,11 +63,12 @@ module _ (A : Algebra) (above_one : 1 < A.p) where
       ∙ omega (arith, ap φ (monomial_of-sorted_word A.order.vars m e))
 
   -- the weight of a product with a variable is that of the words with its letter behind them
-  pub weigh-variable : (φ : Monomial → ℕ) (f : Polynomial) (v : ℕ) → 1 ≤ v
+  weigh-variable : (φ : Monomial → ℕ) (f : Polynomial) (v : ℕ) → 1 ≤ v
       → Same A.p (weigh φ (product A f (variable_polynomial A v))) (weigh (λ a. word_weight A φ (sorted_word a ++ v ∷ [])) f)
   weigh-variable φ f v h =
-      weigh-product A φ f (variable_polynomial A v)
-      ∙ same_refl A.p _ _ (weigh_equal _ _ (λ a. omega (arith, ap (λ w. word_weight A φ (sorted_word a ++ w)) (sorted_word-variable A.order.vars v h))) f)
+      same_refl A.p _ _ (ap (weigh φ) (product-variable A above_one f v h))
+      ∙ weigh-word_value A φ (with_letter v f)
+      ∙ same_refl A.p _ _ (weigh-map_key (word_weight A φ) (λ m. sorted_word m ++ v ∷ []) f)
 
   module _ (paired : IsPaired A) (confluent : IsConfluent A) where
     -- the weight of a product with letters is that of the words with the letters behind them
@@ -98,7 +94,7 @@ module _ (A : Algebra) (above_one : 1 < A.p) where
     pub product-term : (f : Polynomial) (k : ℕ) (m : Monomial) → IsPolynomial A.p A.order f → length m ≡ A.order.vars
         → product A f ((k, m) ∷ []) ≡ times_letters A (poly_scale A.p k f) (sorted_word m)
     product-term f k m h len =
-        equal _ _ (product_is_polynomial A above_one f ((k, m) ∷ []))
+        same_weights A _ _ (product_is_polynomial A above_one f ((k, m) ∷ []))
         (times_letters_is_polynomial (poly_scale A.p k f) (sorted_word m) (IsPolynomial-poly_scale A.p A.order (omega arith) k f h))
         (λ φ.
         let ψ : Monomial → ℕ = λ a. word_weight A φ (sorted_word a ++ sorted_word m) in

@@ -4,11 +4,11 @@ ghost use Rattle.std.specs.Prelude.{◌≡◌, ◌≢◌, ℕ, ◌+◌, ◌<◌,
 ghost use Rattle.prime_field.specs.Modular.{IsPrime};
 ghost use Rattle.monomials.specs.Monomials.{Monomial, degree, plus, variable};
 ghost use Rattle.monomials.specs.Orders.{order_cmp};
-ghost use Rattle.monomials.specs.Polynomials.{Polynomial, HasVars, IsPolynomial, poly_add, poly_degree};
+ghost use Rattle.monomials.specs.Polynomials.{Polynomial, HasVars, IsPolynomial, poly_add, poly_degree, poly_scale};
 ghost use Rattle.word_model.specs.Words.{Algebra, Word, WordSum, IsWord, monomial_of, sorted_word, Descent, leftmost_descent, rewritten, normal_form, word_value, IsPaired};
 ghost use Rattle.word_model.specs.Leading.{leading_monomial};
 ghost use Rattle.word_model.specs.Conditions.{Fault, pair_fault, triple_fault, first_from, relations_fault, NonZero, IsField, IsRegular, IsAlgebraData, IsAccepted};
-ghost use Rattle.word_model.specs.Products.{product, letters_product};
+ghost use Rattle.word_model.specs.Products.{product, letters_product, times_letters};
 ghost use Rattle.word_model.specs.Scripts.{two_variables};
 
 /// The sorted words are the words without a descent, one for each monomial.
@@ -125,4 +125,15 @@ pub fn letters_multiply()
         letters_product A w ≡ normal_form A w }
     ensures words { (A : Algebra) (u w : Word) → IsAccepted A → IsWord A.order.vars (u ++ w) →
         product A (normal_form A u) (normal_form A w) ≡ normal_form A (u ++ w) }
+{}
+
+/// A product is the sum of the products with the terms of its second factor, and the product with a
+/// term is the multiple by its number, times the letters of its sorted word.
+pub fn multiply_by_parts()
+    ensures terms { (A : Algebra) (f g h : Polynomial) → 1 < A.p →
+        product A f (g ++ h)
+        ≡ poly_add (order_cmp A.order.rows) A.p (product A f g) (product A f h) }
+    ensures letters { (A : Algebra) (f : Polynomial) (k : ℕ) (m : Monomial) → IsAccepted A →
+        IsPolynomial A.p A.order f → length m ≡ A.order.vars →
+        product A f ((k, m) ∷ []) ≡ times_letters A (poly_scale A.p k f) (sorted_word m) }
 {}

@@ -26,8 +26,8 @@ falls word k high low inside is high_is low_is =
 behind : (word : List ℕ) (k : ℕ) → take (length word - (k + 2)) (drop (k + 2) word) ≡ drop (suc (suc k)) word
 behind word k = let next : k + 2 ≡ suc (suc k) = omega arith in take_rest word (k + 2) ∙ ap (λ i. drop i word) next
 
-pub d-requires-clause-pair : goal.d-requires-clause-pair
-d-requires-clause-pair c =
+pub d-d-requires-clause-pair : goal.d-d-requires-clause-pair
+d-d-requires-clause-pair c =
     falls c.args.term.word.items c.args.place c.index.result.now c.index-2.result.now c.requires.inside c.requires.descent c.index.ensures c.index-2.ensures
 
 pub c-requires-clause-pair : goal.c-requires-clause-pair
@@ -45,7 +45,7 @@ returns c =
     let inside : suc place < length word = omega (arith, c.requires.inside) in
     let high : c.index.result.now ≡ s.high = letter_at word place _ (omega arith) c.index.ensures in
     let low : c.index-2.result.now ≡ s.low = letter_at word (place + 1) _ c.requires.inside c.index-2.ensures ∙ ap (λ i. get_or word i 0) next in
-    let d : c.d.result.now ≡ d_of a s.low s.high = c.d.ensures.value ∙ (λ i. d_of a (low i) (high i)) in
+    let d : c.d-d.result.now ≡ d_of a s.low s.high = c.d-d.ensures.value ∙ (λ i. d_of a (low i) (high i)) in
     let back : take (length c.deref-2.result.now - (place + 2)) (drop (place + 2) c.deref-2.result.now) ≡ s.after =
     behind c.deref-2.result.now place ∙ ap (drop (suc (suc place))) c.deref-2.ensures.value in
     let terms : words_of c.push_between.new.words.items ≡ words_of c.args.pending.now.items ++ reduced a.p (between k s.before (d_of a s.low s.high) s.after) =

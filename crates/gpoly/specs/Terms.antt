@@ -12,11 +12,6 @@ pair_of t = (t.coef, t.mono)
 abbrev pub pairs_of : List Term → Polynomial
 pairs_of ts = map pair_of ts
 
--- the number of the first term, 0 for the zero polynomial
-abbrev pub first_number : Polynomial → ℕ
-first_number [] = 0
-first_number (t ∷ f) = t.0
-
 -- what the terms of a polynomial are in any order: not zero, of degree at most 4095, with pairwise different monomials
 pub record IsTermList (f : Polynomial) : Type 0 where
   pub nonzero : Each (λ t. 0 < t.0) f

@@ -5,7 +5,8 @@ ghost use Rattle.std.specs.Prelude.{◌≡◌, ◌≢◌, ℕ, ◌+◌, ◌-◌,
 ghost use Rattle.monomials.specs.Monomials.{Monomial, degree};
 ghost use Rattle.monomials.specs.Orders.{RowOrder, order_cmp};
 ghost use Rattle.monomials.specs.Polynomials.{Each, HasVars, HasNumbers, IsPolynomial, cons_nonzero, from_terms, poly_add, poly_sub, poly_scale, poly_degree, coefficient_at};
-ghost use Rattle.gpoly.specs.Terms.{pair_of, pairs_of, first_number, IsTermList};
+ghost use Rattle.monomials.specs.Leading.{leading_coefficient};
+ghost use Rattle.gpoly.specs.Terms.{pair_of, pairs_of, IsTermList};
 
 use monomials::{Expo, Order};
 use prime_field::Field;
@@ -142,10 +143,10 @@ impl GPoly {
     pub fn monic(&self, alloc: Global, field: Field) -> Result<(GPoly, u32), AllocError>
         requires not_zero { self.now ≢ [] }
         requires numbers { HasNumbers field self.now }
-        ensures scale { IfOk result (λ (_, k). (k * first_number self.now) % field ≡ 1) }
+        ensures scale { IfOk result (λ (_, k). (k * leading_coefficient self.now) % field ≡ 1) }
         ensures in_range { IfOk result (λ (_, k). k < field) }
         ensures value { IfOk result (λ (r, k). r ≡ poly_scale field k self.now) }
-        ensures monic { IfOk result (λ (r, _). first_number r ≡ 1) }
+        ensures monic { IfOk result (λ (r, _). leading_coefficient r ≡ 1) }
         ensures numbers { IfOk result (λ (r, _). HasNumbers field r) }
         ensures sorted { IfOk result (λ (r, _). (o : RowOrder) →
             IsPolynomial field o self.now → IsPolynomial field o r) }

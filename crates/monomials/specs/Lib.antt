@@ -5,3 +5,4 @@ pub mod Polynomials
 pub mod Padded
 pub mod Separating
 pub mod Rows
+pub mod Leading

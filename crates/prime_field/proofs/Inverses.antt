@@ -1,9 +1,10 @@
 -- The numbers modulo a prime are a field: inverses exist and are unique, and no product of nonzero numbers is zero.
-use Rattle.std.proofs.Common.{◌≡◌, ◌≢◌, ℕ, zero, suc, ◌+◌, ◌*◌, ◌-◌, ◌/◌, ◌%◌, ◌<◌, ◌≤◌, arith, sym, ◌∙◌, ap, inl, inr}
+use Rattle.std.proofs.Common.{◌≡◌, refl, Bool, true, false, ◌==◌, if◌then◌else◌, ◌≢◌, ℕ, zero, suc, ◌+◌, ◌*◌, ◌-◌, ◌/◌, ◌%◌, ◌<◌, ◌≤◌, arith, sym, ◌∙◌, ap, inl, inr}
 use Rattle.std.proofs.Math.Nat.{div-add-mod', mod-lt, mod-eq_of_lt, add-mul-mod_self_right}
 use Rattle.std.proofs.lemmas.Bool.{cases_lt}
+use Rattle.std.proofs.lemmas.Bool.Decides.{nat_tests}
 use Rattle.std.proofs.lemmas.Nat.{mul-mod_second, mul-le}
-use Rattle.prime_field.specs.Modular.{IsPrime}
+use Rattle.prime_field.specs.Modular.{IsPrime, inverse, inverse_from}
 
 -- numbers that differ by multiples of p have the same remainder
 pub same_remainder : (p x y i j : ℕ) → x + i * p ≡ y + j * p → x % p ≡ y % p
@@ -80,3 +81,24 @@ no_zero_divisors p a b h a_positive a_in_range b_positive b_in_range =
           let vanishes : 0 ≡ b = sym none ∙ ((rw is_zero at by_c) ∙ b_is) in
           absurd (omega arith)
     ]
+
+-- a search for the inverse of a, by its next test
+found_by :
+    (p a c b : ℕ) (later : ℕ) → ((a * b) % p ≢ 1 → c ≡ later) → ((a * b) % p ≡ 1 → c ≡ b)
+    → (found : Bool) → ((a * b) % p == 1) ≡ found → c ≡ (if found then b else later)
+found_by p a c b later go here true e = here (grind (arith, nat_tests, e))
+found_by p a c b later go here false e = go (grind (arith, nat_tests, e))
+
+-- a search that starts at or below the inverse finds it
+found_from : (p a c : ℕ) → IsPrime p → (a * c) % p ≡ 1 → c < p → (b k : ℕ) → b + k ≡ p → b ≤ c → c ≡ inverse_from p a b k
+found_from p a c h is below b zero whole low = absurd (omega arith)
+found_from p a c h is below b (suc k) whole low =
+    let later : (a * b) % p ≢ 1 → c ≡ inverse_from p a (suc b) k =
+    λ other. (let apart : b ≢ c = λ same. other (rw same is) in found_from p a c h is below (suc b) k (omega arith) (omega arith))
+    in
+    found_by p a c b (inverse_from p a (suc b) k) later (λ one. inverse_unique p a c b h is one below (omega arith)) ((a * b) % p == 1) refl
+
+-- the number below p whose product with a is 1 is the inverse
+pub inverse_is : (p a c : ℕ) → IsPrime p → (a * c) % p ≡ 1 → c < p → c ≡ inverse p a
+unfolding inverse
+inverse_is p a c h is below = found_from p a c h is below 0 p (omega arith) (omega arith)

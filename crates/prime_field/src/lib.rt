@@ -2,7 +2,7 @@
 #![tactic(auto)]
 
 ghost use Rattle.std.specs.Prelude.{◌≡◌, ◌≢◌, ℕ, ◌+◌, ◌-◌, ◌*◌, ◌%◌, ◌<◌, ◌↔◌, false, IsTrue, IsOk, IfOk, IfErr};
-ghost use Rattle.prime_field.specs.Modular.{in_table, IsPrime, symmetric};
+ghost use Rattle.prime_field.specs.Modular.{in_table, IsPrime, inverse, symmetric};
 
 use std::marker::Model;
 
@@ -127,6 +127,7 @@ impl Field {
     pub fn inv(self, a: u32) -> u32
         requires in_range { a < self }
         requires not_zero { a ≢ 0 }
+        ensures value { result ≡ inverse self a }
         ensures product { (a * result) % self ≡ 1 }
         ensures in_range { result < self }
     {

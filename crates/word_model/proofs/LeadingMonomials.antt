@@ -11,7 +11,7 @@ use Rattle.monomials.proofs.Canonical.{only_at, only_at-same, only_at-below, abs
 use Rattle.monomials.proofs.Keys.{Each-append, Each-weaker}
 use Rattle.monomials.proofs.Operations.{above_each}
 use Rattle.word_model.specs.Words.{Algebra, Word, IsWord, monomial_of, sorted_word, leftmost_descent, c_of, d_of, IsSmall, IsPaired}
-use Rattle.word_model.specs.Leading.{leading_monomial}
+use Rattle.monomials.specs.Leading.{leading_monomial}
 use Rattle.word_model.specs.Products.{product}
 use Rattle.word_model.specs.Conditions.{NonZero, IsField, IsRegular}
 use Rattle.word_model.proofs.Letters.{Each-both, counts_from-append, counts_from-swap, monomial_of-sorted_word, IsWord-sorted_word}

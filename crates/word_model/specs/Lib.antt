@@ -3,5 +3,4 @@ pub mod Products
 pub mod Texts
 pub mod Scripts
 pub mod Answers
-pub mod Leading
 pub mod Conditions

@@ -6,7 +6,7 @@ ghost use Rattle.monomials.specs.Monomials.{Monomial, degree, plus, variable};
 ghost use Rattle.monomials.specs.Orders.{order_cmp};
 ghost use Rattle.monomials.specs.Polynomials.{Polynomial, HasVars, IsPolynomial, poly_add, poly_degree, poly_scale};
 ghost use Rattle.word_model.specs.Words.{Algebra, Word, WordSum, IsWord, monomial_of, sorted_word, Descent, leftmost_descent, rewritten, normal_form, word_value, IsPaired};
-ghost use Rattle.word_model.specs.Leading.{leading_monomial};
+ghost use Rattle.monomials.specs.Leading.{leading_monomial};
 ghost use Rattle.word_model.specs.Conditions.{Fault, pair_fault, triple_fault, first_from, relations_fault, NonZero, IsField, IsRegular, IsAlgebraData, IsAccepted};
 ghost use Rattle.word_model.specs.Products.{product, letters_product, times_letters};
 ghost use Rattle.word_model.specs.Scripts.{two_variables};

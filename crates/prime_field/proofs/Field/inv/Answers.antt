@@ -1,7 +1,8 @@
-use Rattle.std.proofs.Common.{◌≡◌, ℕ, ◌*◌, ◌%◌, ◌<◌, ◌≢◌, arith, ap}
-use Rattle.std.proofs.Math.Nat.{mod-lt, mod_self}
+use Rattle.std.proofs.Common.{◌≡◌, ◌∙◌, ℕ, ◌*◌, ◌%◌, ◌<◌, ◌≢◌, arith, ap}
+use Rattle.std.proofs.Math.Nat.{mod-lt, mod_self, mod-eq_of_lt}
 use Rattle.prime_field.specs.Modular.{IsPrime}
 use Rattle.prime_field.proofs.Euclid.{IsCoprime, coprime_to_prime, coprime_step, coprime_remains, factor_step}
+use Rattle.prime_field.proofs.Inverses.{inverse_is}
 use Rattle.prime_field.proofs.Field.inv.Goals as goal
 
 pub loop-rest-init : goal.loop-rest-init
@@ -45,3 +46,11 @@ loop-rest-preserved c =
           factor_step p c.args.a before rest c.loop-rest.before_factor c.loop-rest.factor (omega arith)
           c.loop-rest.invariant.before_is c.loop-rest.invariant.rest_is);
     }
+
+pub returns-clause-value : goal.returns-clause-value
+returns-clause-value c =
+    let p : ℕ = c.args.self in
+    let is : c.p-before.result ≡ p = c.p-before.ensures.value in
+    let prime : IsPrime p = c.p-before.ensures.prime in
+    let one : c.loop-rest.rest ≡ 1 = c.loop-rest-test.false in
+    inverse_is p c.args.a c.loop-rest.factor prime (c.loop-rest.invariant.rest_is ∙ rw one (mod-eq_of_lt prime.above_one)) c.loop-rest.invariant.factor_in_range

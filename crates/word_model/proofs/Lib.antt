@@ -21,3 +21,4 @@ pub mod Associativity
 pub mod TermProducts
 mod Rows
 pub mod ReadingLaws
+mod Runs

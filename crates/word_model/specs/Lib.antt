@@ -4,3 +4,6 @@ pub mod Texts
 pub mod Scripts
 pub mod Answers
 pub mod Conditions
+pub mod Reduction
+pub mod Jobs
+pub mod Machine

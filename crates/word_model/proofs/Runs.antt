@@ -1,0 +1,123 @@
+-- Worked runs of the machine, computed from the definitions.
+use Rattle.std.proofs.Common.{◌≡◌, ℕ, List, [], ◌∷◌, refl}
+use Rattle.prime_field.specs.Modular.{inverse}
+use Rattle.monomials.specs.Polynomials.{Polynomial}
+use Rattle.monomials.specs.Blocks.{dp_rows}
+use Rattle.word_model.specs.Words.{Algebra, normal_form, normal_form_within}
+use Rattle.word_model.specs.Products.{product}
+use Rattle.word_model.specs.Scripts.{two_variables}
+use Rattle.word_model.specs.Reduction.{steps_within, reduce}
+use Rattle.word_model.specs.Jobs.{start_of, chain_witness}
+use Rattle.word_model.specs.Machine.{Journal, step, run_within, machine}
+use Rattle.word_model.specs.declared.records.Job.TheVariants.{Seed, Pair, Right}
+use Rattle.word_model.specs.declared.records.TraceStep.{TraceStep}
+use Rattle.word_model.specs.declared.records.Mode.TheVariants.{Left, TwoSided}
+use Rattle.word_model.specs.declared.records.Entry.TheVariants.{Skipped, Zero, New}
+use Rattle.word_model.specs.declared.records.Outcome.TheVariants.{Finished, BudgetSpent, BasisFull, DegreeOver}
+
+-- x d and d^2 where d x = x d + 1
+abbrev weyl_generators : List Polynomial
+weyl_generators = ((1, 1 ∷ 1 ∷ []) ∷ []) ∷ ((1, 0 ∷ 2 ∷ []) ∷ []) ∷ []
+
+-- the left basis is d^2, x d and d
+weyl_left : machine (two_variables 7 1 1) weyl_generators Left 5
+    ≡ record {
+      entries = New (Seed 2) [] 1 ∷ New (Seed 1) [] 1 ∷ New (Pair 1 2) [] 6 ∷ Zero (Pair 1 3) [] ∷ Zero (Pair 2 3) [] ∷ [];
+      basis = ((1, 0 ∷ 2 ∷ []) ∷ []) ∷ ((1, 1 ∷ 1 ∷ []) ∷ []) ∷ ((1, 0 ∷ 1 ∷ []) ∷ []) ∷ [];
+      outcome = Finished;
+    }
+unfolding machine run_within step chain_witness start_of reduce steps_within product normal_form normal_form_within inverse
+weyl_left = refl
+
+-- one entry, where the budget is one
+weyl_budget : machine (two_variables 7 1 1) weyl_generators Left 1
+    ≡ record { entries = New (Seed 2) [] 1 ∷ []; basis = ((1, 0 ∷ 2 ∷ []) ∷ []) ∷ []; outcome = BudgetSpent }
+unfolding machine run_within step chain_witness start_of reduce steps_within product normal_form normal_form_within inverse
+weyl_budget = refl
+
+-- ---- three monomials x y, y z and x z: the last pair is skipped, and not the first, whose two other pairs are queued
+
+abbrev three_commuting : Algebra
+three_commuting = record { p = 7; order = record { vars = 3; rows = dp_rows 3 0 3 }; c = 1 ∷ 1 ∷ 1 ∷ []; d = [] ∷ [] ∷ [] ∷ [] }
+
+three_monomials : machine three_commuting (((1, 1 ∷ 1 ∷ 0 ∷ []) ∷ []) ∷ ((1, 0 ∷ 1 ∷ 1 ∷ []) ∷ []) ∷ ((1, 1 ∷ 0 ∷ 1 ∷ []) ∷ []) ∷ []) Left 100
+    ≡ record {
+      entries = New (Seed 2) [] 1 ∷ New (Seed 3) [] 1 ∷ New (Seed 1) [] 1 ∷ Zero (Pair 1 2) [] ∷ Zero (Pair 1 3) [] ∷ Skipped (Pair 2 3) 1 ∷ [];
+      basis = ((1, 0 ∷ 1 ∷ 1 ∷ []) ∷ []) ∷ ((1, 1 ∷ 0 ∷ 1 ∷ []) ∷ []) ∷ ((1, 1 ∷ 1 ∷ 0 ∷ []) ∷ []) ∷ [];
+      outcome = Finished;
+    }
+unfolding machine run_within step chain_witness start_of reduce steps_within product normal_form normal_form_within inverse
+three_monomials = refl
+
+-- ---- four monomials in four variables, each without one of them: all lcms are equal, so pairs go by j and then i
+
+abbrev four_commuting : Algebra
+four_commuting = record {
+  p = 7;
+  order = record { vars = 4; rows = dp_rows 4 0 4 };
+  c = 1 ∷ 1 ∷ 1 ∷ 1 ∷ 1 ∷ 1 ∷ [];
+  d = [] ∷ [] ∷ [] ∷ [] ∷ [] ∷ [] ∷ [];
+}
+
+abbrev four_monomials : List Polynomial
+four_monomials =
+    ((1, 0 ∷ 1 ∷ 1 ∷ 1 ∷ []) ∷ []) ∷ ((1, 1 ∷ 0 ∷ 1 ∷ 1 ∷ []) ∷ []) ∷ ((1, 1 ∷ 1 ∷ 0 ∷ 1 ∷ []) ∷ []) ∷ ((1, 1 ∷ 1 ∷ 1 ∷ 0 ∷ []) ∷ []) ∷ []
+
+equal_lcms : machine four_commuting four_monomials Left 100
+    ≡ record {
+      entries =
+          New (Seed 1) [] 1 ∷ New (Seed 2) [] 1 ∷ New (Seed 3) [] 1 ∷ New (Seed 4) [] 1 ∷ Zero (Pair 1 2) [] ∷ Zero (Pair 1 3) []
+          ∷ Skipped (Pair 2 3) 1 ∷ Zero (Pair 1 4) [] ∷ Skipped (Pair 2 4) 1 ∷ Skipped (Pair 3 4) 1 ∷ [];
+      basis = four_monomials;
+      outcome = Finished;
+    }
+unfolding machine run_within step chain_witness start_of reduce steps_within product normal_form normal_form_within inverse
+equal_lcms = refl
+
+-- ---- the Heisenberg algebra in x, y, a, b, z, where a x = x a + z and b y = y b + z: x a, y b, z - 1 and a^2
+
+abbrev heisenberg : Algebra
+heisenberg = record {
+  p = 32003;
+  order = record { vars = 5; rows = dp_rows 5 0 5 };
+  c = 1 ∷ 1 ∷ 1 ∷ 1 ∷ 1 ∷ 1 ∷ 1 ∷ 1 ∷ 1 ∷ 1 ∷ [];
+  d = [] ∷ ((1, 0 ∷ 0 ∷ 0 ∷ 0 ∷ 1 ∷ []) ∷ []) ∷ [] ∷ [] ∷ [] ∷ ((1, 0 ∷ 0 ∷ 0 ∷ 0 ∷ 1 ∷ []) ∷ []) ∷ [] ∷ [] ∷ [] ∷ [] ∷ [];
+}
+
+abbrev heisenberg_generators : List Polynomial
+heisenberg_generators =
+    ((1, 1 ∷ 0 ∷ 1 ∷ 0 ∷ 0 ∷ []) ∷ []) ∷ ((1, 0 ∷ 1 ∷ 0 ∷ 1 ∷ 0 ∷ []) ∷ [])
+    ∷ ((1, 0 ∷ 0 ∷ 0 ∷ 0 ∷ 1 ∷ []) ∷ (32002, 0 ∷ 0 ∷ 0 ∷ 0 ∷ 0 ∷ []) ∷ []) ∷ ((1, 0 ∷ 0 ∷ 2 ∷ 0 ∷ 0 ∷ []) ∷ []) ∷ []
+
+-- the step -1 times the element of number i
+abbrev minus_one_times : ℕ → TraceStep
+minus_one_times i = record { coef = 32002; mono = 0 ∷ 0 ∷ 0 ∷ 0 ∷ 0 ∷ []; index = i }
+
+heisenberg_left : machine heisenberg heisenberg_generators Left 100
+    ≡ record {
+      entries =
+          New (Seed 3) [] 1 ∷ New (Seed 2) [] 1 ∷ New (Seed 4) [] 1 ∷ New (Seed 1) [] 1
+          ∷ Zero (Pair 1 2) (minus_one_times 2 ∷ []) ∷ Zero (Pair 1 3) (minus_one_times 3 ∷ []) ∷ Zero (Pair 1 4) (minus_one_times 4 ∷ [])
+          ∷ New (Pair 3 4) (record { coef = 32002; mono = 0 ∷ 0 ∷ 1 ∷ 0 ∷ 0 ∷ []; index = 1 } ∷ []) 32002
+          ∷ Zero (Pair 1 5) (minus_one_times 5 ∷ []) ∷ Zero (Pair 3 5) [] ∷ Zero (Pair 4 5) [] ∷ Zero (Pair 2 5) []
+          ∷ Skipped (Pair 2 3) 5 ∷ Skipped (Pair 2 4) 5 ∷ [];
+      basis =
+          ((1, 0 ∷ 0 ∷ 0 ∷ 0 ∷ 1 ∷ []) ∷ (32002, 0 ∷ 0 ∷ 0 ∷ 0 ∷ 0 ∷ []) ∷ []) ∷ ((1, 0 ∷ 1 ∷ 0 ∷ 1 ∷ 0 ∷ []) ∷ [])
+          ∷ ((1, 0 ∷ 0 ∷ 2 ∷ 0 ∷ 0 ∷ []) ∷ []) ∷ ((1, 1 ∷ 0 ∷ 1 ∷ 0 ∷ 0 ∷ []) ∷ []) ∷ ((1, 0 ∷ 0 ∷ 1 ∷ 0 ∷ 0 ∷ []) ∷ []) ∷ [];
+      outcome = Finished;
+    }
+unfolding machine run_within step chain_witness start_of reduce steps_within product normal_form normal_form_within inverse
+heisenberg_left = refl
+
+-- ---- a two-sided run: the ideal of x where d x = x d + 1 is everything
+
+weyl_two_sided : machine (two_variables 7 1 1) (((1, 1 ∷ 0 ∷ []) ∷ []) ∷ []) TwoSided 3
+    ≡ record {
+      entries =
+          New (Seed 1) [] 1 ∷ New (Right 1 2) (record { coef = 1; mono = 0 ∷ 1 ∷ []; index = 1 } ∷ []) 6
+          ∷ Zero (Right 2 2) (record { coef = 1; mono = 0 ∷ 1 ∷ []; index = 2 } ∷ []) ∷ [];
+      basis = ((1, 1 ∷ 0 ∷ []) ∷ []) ∷ ((1, 0 ∷ 0 ∷ []) ∷ []) ∷ [];
+      outcome = BudgetSpent;
+    }
+unfolding machine run_within step chain_witness start_of reduce steps_within product normal_form normal_form_within inverse
+weyl_two_sided = refl

@@ -1,0 +1,107 @@
+-- The jobs of a run: their keys, their start polynomials, and the chain rule.
+use Rattle.std.specs.Prelude.{ℕ, Bool, true, false, ◌&&◌, not, ◌==◌, nat_lt, List, [], ◌∷◌, length, Option, Some, None, if◌then◌else◌}
+use Rattle.std.specs.List.{list_any, filter}
+use Rattle.std.specs.declared.cmp.Ordering.{Ordering}
+use Rattle.std.specs.Ordering.{nat_cmp, ordering_then, is_lt}
+use Rattle.monomials.specs.Monomials.{Monomial, minus, lcm, plus, variable}
+use Rattle.monomials.specs.Orders.{order_cmp}
+use Rattle.monomials.specs.Polynomials.{Polynomial, poly_sub}
+use Rattle.monomials.specs.Leading.{leading_monomial, leading_coefficient}
+use Rattle.word_model.specs.Words.{Algebra}
+use Rattle.word_model.specs.Products.{product, variable_polynomial, in_reach}
+use Rattle.word_model.specs.Reduction.{element, least_number, lead_divides, quotient, multiple, is_within}
+use Rattle.word_model.specs.declared.records.Job.{Job}
+use Rattle.word_model.specs.declared.records.Job.TheVariants.{Seed, Pair, Right}
+
+-- ---- lists of jobs
+
+abbrev pub same_job : Job → Job → Bool
+same_job (Seed s) (Seed t) = s == t
+same_job (Pair i j) (Pair k l) = (i == k) && (j == l)
+same_job (Right i v) (Right k w) = (i == k) && (v == w)
+same_job _ _ = false
+
+-- whether a job is queued
+abbrev pub is_queued : List Job → Job → Bool
+is_queued queue job = list_any (same_job job) queue
+
+-- the queue after a job has left it
+abbrev pub without : Job → List Job → List Job
+without job queue = filter (λ other. not (same_job job other)) queue
+
+-- ---- keys
+
+-- the lcm of the leading monomials of two elements
+abbrev pub pair_lcm : List Polynomial → ℕ → ℕ → Monomial
+pair_lcm G i j = lcm (leading_monomial (element G i)) (leading_monomial (element G j))
+
+-- the monomial of a job's key
+abbrev pub key_monomial : Algebra → List Polynomial → List Polynomial → Job → Monomial
+key_monomial A gens G (Seed s) = leading_monomial (element gens s)
+key_monomial A gens G (Pair i j) = pair_lcm G i j
+key_monomial A gens G (Right i v) = plus (leading_monomial (element G i)) (variable A.order.vars v)
+
+-- What orders jobs of equal monomials: seeds come first, then pairs, then products with variables, and of one kind
+-- seeds go by s, pairs by j and then i, products by i and then v.
+abbrev pub rank_of : Job → ℕ × (ℕ × ℕ)
+rank_of (Seed s) = (0, (s, 0))
+rank_of (Pair i j) = (1, (j, i))
+rank_of (Right i v) = (2, (i, v))
+
+abbrev pub rank_cmp : ℕ × (ℕ × ℕ) → ℕ × (ℕ × ℕ) → Ordering
+rank_cmp a b = ordering_then (nat_cmp a.0 b.0) (ordering_then (nat_cmp a.1.0 b.1.0) (nat_cmp a.1.1 b.1.1))
+
+-- the order of keys: by their monomials, and then by rank
+abbrev pub key_cmp : Algebra → List Polynomial → List Polynomial → Job → Job → Ordering
+key_cmp A gens G a b =
+    ordering_then (order_cmp A.order.rows (key_monomial A gens G a) (key_monomial A gens G b)) (rank_cmp (rank_of a) (rank_of b))
+
+-- the job of the least key among `job` and those of the queue
+abbrev pub least_job : Algebra → List Polynomial → List Polynomial → Job → List Job → Job
+least_job A gens G job [] = job
+least_job A gens G job (other ∷ queue) =
+    least_job A gens G (if is_lt (key_cmp A gens G other job) then other else job) queue
+
+-- ---- starts
+
+-- the S-polynomial: of the multiples of f and g that reach the lcm of their leading monomials, the first less the
+-- multiple of the second that cancels its leading term
+abbrev pub s_polynomial : Algebra → Polynomial → Polynomial → Polynomial
+s_polynomial A f g =
+    let l : Monomial = lcm (leading_monomial f) (leading_monomial g) in
+    let a : Monomial = minus l (leading_monomial f) in
+    let b : Monomial = minus l (leading_monomial g) in
+    let k : ℕ = quotient A.p (leading_coefficient (multiple A 1 a f)) (leading_coefficient (multiple A 1 b g)) in
+    poly_sub (order_cmp A.order.rows) A.p (multiple A 1 a f) (multiple A k b g)
+
+-- whether both products of a pair's S-polynomial are computed
+abbrev pub pair_within : List Polynomial → ℕ → ℕ → Bool
+pair_within G i j =
+    let l : Monomial = pair_lcm G i j in
+    is_within (minus l (leading_monomial (element G i))) (element G i)
+    && is_within (minus l (leading_monomial (element G j))) (element G j)
+
+-- the start polynomial of a job, where its products are computed
+unfoldable pub start_of : Algebra → List Polynomial → List Polynomial → Job → Option Polynomial
+start_of A gens G (Seed s) = Some (element gens s)
+start_of A gens G (Pair i j) = if pair_within G i j then Some (s_polynomial A (element G i) (element G j)) else None
+start_of A gens G (Right i v) =
+    if in_reach (element G i) (variable_polynomial A v) then Some (product A (element G i) (variable_polynomial A v)) else None
+
+-- ---- the chain rule
+
+-- whether the pair of two elements is queued
+abbrev pub pair_queued : List Job → ℕ → ℕ → Bool
+pair_queued queue i j = is_queued queue (if nat_lt i j then Pair i j else Pair j i)
+
+-- whether k is a third element whose leading monomial divides the lcm of those of i and j, and the pairs of k with i
+-- and with j were treated before
+abbrev pub is_witness : List Polynomial → List Job → ℕ → ℕ → ℕ → Bool
+is_witness G queue i j k =
+    not (k == i) && not (k == j) && lead_divides (element G k) (pair_lcm G i j)
+    && not (pair_queued queue k i) && not (pair_queued queue k j)
+
+-- the least witness by which a job is skipped, which only a pair may have
+unfoldable pub chain_witness : List Polynomial → List Job → Job → Option ℕ
+chain_witness G queue (Pair i j) = least_number (is_witness G queue i j) 1 (length G)
+chain_witness G queue _ = None

@@ -21,4 +21,6 @@ pub mod Associativity
 pub mod TermProducts
 mod Rows
 pub mod ReadingLaws
+pub mod Reductions
+pub mod Steps
 mod Runs

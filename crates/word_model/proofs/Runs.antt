@@ -1,13 +1,14 @@
 -- Worked runs of the machine, computed from the definitions.
-use Rattle.std.proofs.Common.{◌≡◌, ℕ, List, [], ◌∷◌, refl}
+use Rattle.std.proofs.Common.{◌≡◌, ℕ, List, [], ◌∷◌, pos, Some, refl}
 use Rattle.prime_field.specs.Modular.{inverse}
 use Rattle.monomials.specs.Polynomials.{Polynomial}
 use Rattle.monomials.specs.Blocks.{dp_rows}
 use Rattle.word_model.specs.Words.{Algebra, normal_form, normal_form_within}
 use Rattle.word_model.specs.Products.{product}
 use Rattle.word_model.specs.Scripts.{two_variables}
-use Rattle.word_model.specs.Reduction.{steps_within, reduce}
+use Rattle.word_model.specs.Reduction.{steps_within, reduce, reduce_tail}
 use Rattle.word_model.specs.Jobs.{start_of, chain_witness}
+use Rattle.word_model.specs.Finished.{finished, kept}
 use Rattle.word_model.specs.Machine.{Journal, step, run_within, machine}
 use Rattle.word_model.specs.declared.records.Job.TheVariants.{Seed, Pair, Right}
 use Rattle.word_model.specs.declared.records.TraceStep.{TraceStep}
@@ -121,3 +122,51 @@ weyl_two_sided : machine (two_variables 7 1 1) (((1, 1 ∷ 0 ∷ []) ∷ []) ∷
     }
 unfolding machine run_within step chain_witness start_of reduce steps_within product normal_form normal_form_within inverse
 weyl_two_sided = refl
+
+-- ---- finished lists
+
+-- the list of the Weyl algebra's run above is d alone
+weyl_list : finished (two_variables 7 1 1) (((1, 0 ∷ 2 ∷ []) ∷ []) ∷ ((1, 1 ∷ 1 ∷ []) ∷ []) ∷ ((1, 0 ∷ 1 ∷ []) ∷ []) ∷ [])
+    ≡ Some (record { list = ((1, 0 ∷ 1 ∷ []) ∷ []) ∷ []; origin = 3 ∷ []; tails = [] ∷ [] })
+unfolding finished kept reduce_tail steps_within
+weyl_list = refl
+
+-- that of the Heisenberg run is z - 1, a and y b
+heisenberg_list : finished heisenberg (machine heisenberg heisenberg_generators Left 100).basis
+    ≡ Some (record {
+      list =
+          ((1, 0 ∷ 0 ∷ 0 ∷ 0 ∷ 1 ∷ []) ∷ (32002, 0 ∷ 0 ∷ 0 ∷ 0 ∷ 0 ∷ []) ∷ []) ∷ ((1, 0 ∷ 0 ∷ 1 ∷ 0 ∷ 0 ∷ []) ∷ [])
+          ∷ ((1, 0 ∷ 1 ∷ 0 ∷ 1 ∷ 0 ∷ []) ∷ []) ∷ [];
+      origin = 1 ∷ 5 ∷ 2 ∷ [];
+      tails = [] ∷ [] ∷ [] ∷ [];
+    })
+unfolding finished kept reduce_tail steps_within
+heisenberg_list = rw heisenberg_left refl
+
+-- x - y, y - z and z - 1, ordered lexicographically: two tails are reduced, by the elements as they stand in the basis
+abbrev lexicographic : Algebra
+lexicographic = record {
+  p = 7;
+  order = record { vars = 3; rows = (pos 1 ∷ pos 0 ∷ pos 0 ∷ []) ∷ (pos 0 ∷ pos 1 ∷ pos 0 ∷ []) ∷ (pos 0 ∷ pos 0 ∷ pos 1 ∷ []) ∷ [] };
+  c = 1 ∷ 1 ∷ 1 ∷ [];
+  d = [] ∷ [] ∷ [] ∷ [];
+}
+
+abbrev less_next : List Polynomial
+less_next =
+    ((1, 1 ∷ 0 ∷ 0 ∷ []) ∷ (6, 0 ∷ 1 ∷ 0 ∷ []) ∷ []) ∷ ((1, 0 ∷ 1 ∷ 0 ∷ []) ∷ (6, 0 ∷ 0 ∷ 1 ∷ []) ∷ [])
+    ∷ ((1, 0 ∷ 0 ∷ 1 ∷ []) ∷ (6, 0 ∷ 0 ∷ 0 ∷ []) ∷ []) ∷ []
+
+less_by : ℕ → TraceStep
+less_by i = record { coef = 6; mono = 0 ∷ 0 ∷ 0 ∷ []; index = i }
+
+tails_are_reduced : finished lexicographic (machine lexicographic less_next Left 100).basis
+    ≡ Some (record {
+      list =
+          ((1, 0 ∷ 0 ∷ 1 ∷ []) ∷ (6, 0 ∷ 0 ∷ 0 ∷ []) ∷ []) ∷ ((1, 0 ∷ 1 ∷ 0 ∷ []) ∷ (6, 0 ∷ 0 ∷ 0 ∷ []) ∷ [])
+          ∷ ((1, 1 ∷ 0 ∷ 0 ∷ []) ∷ (6, 0 ∷ 0 ∷ 0 ∷ []) ∷ []) ∷ [];
+      origin = 1 ∷ 2 ∷ 3 ∷ [];
+      tails = [] ∷ (less_by 1 ∷ []) ∷ (less_by 2 ∷ less_by 1 ∷ []) ∷ [];
+    })
+unfolding finished kept reduce_tail machine run_within step chain_witness start_of reduce steps_within product normal_form normal_form_within inverse less_by
+tails_are_reduced = refl

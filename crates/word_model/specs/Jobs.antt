@@ -1,5 +1,5 @@
 -- The jobs of a run: their keys, their start polynomials, and the chain rule.
-use Rattle.std.specs.Prelude.{ℕ, Bool, true, false, ◌&&◌, not, ◌==◌, nat_lt, List, [], ◌∷◌, length, Option, Some, None, if◌then◌else◌}
+use Rattle.std.specs.Prelude.{◌≢◌, ℕ, ◌<◌, ◌≤◌, Bool, true, false, ◌&&◌, not, ◌==◌, nat_lt, List, [], ◌∷◌, length, Option, Some, None, if◌then◌else◌}
 use Rattle.std.specs.List.{list_any, filter}
 use Rattle.std.specs.declared.cmp.Ordering.{Ordering}
 use Rattle.std.specs.Ordering.{nat_cmp, ordering_then, is_lt}
@@ -105,3 +105,18 @@ is_witness G queue i j k =
 unfoldable pub chain_witness : List Polynomial → List Job → Job → Option ℕ
 chain_witness G queue (Pair i j) = least_number (is_witness G queue i j) 1 (length G)
 chain_witness G queue _ = None
+
+-- ---- what a job names
+
+-- a job's numbers are those of one of g generators, of basis elements among m, the first before the second, and of one
+-- of n variables
+abbrev pub IsJob : ℕ → ℕ → ℕ → Job → Type 0
+IsJob g m n (Seed s) = (1 ≤ s) × (s ≤ g)
+IsJob g m n (Pair i j) = (1 ≤ i) × (i < j) × (j ≤ m)
+IsJob g m n (Right i v) = (1 ≤ i) × (i ≤ m) × (1 ≤ v) × (v ≤ n)
+
+-- the generator or the elements that a job names are not zero
+abbrev pub NamesNonzero : List Polynomial → List Polynomial → Job → Type 0
+NamesNonzero gens G (Seed s) = element gens s ≢ []
+NamesNonzero gens G (Pair i j) = (element G i ≢ []) × (element G j ≢ [])
+NamesNonzero gens G (Right i v) = element G i ≢ []

@@ -7,3 +7,4 @@ pub mod Conditions
 pub mod Reduction
 pub mod Jobs
 pub mod Machine
+pub mod Finished

@@ -1,11 +1,11 @@
 -- The one-worker machine: Buchberger's algorithm for left and two-sided bases, a step at a time.
-use Rattle.std.specs.Prelude.{ℕ, zero, suc, ◌-◌, nat_le, List, [], ◌∷◌, ◌++◌, length, Option, Some, None, if◌then◌else◌}
+use Rattle.std.specs.Prelude.{◌≢◌, ℕ, zero, suc, ◌-◌, nat_le, List, [], ◌∷◌, ◌++◌, length, Option, Some, None, if◌then◌else◌}
 use Rattle.prime_field.specs.Modular.{inverse}
-use Rattle.monomials.specs.Polynomials.{Polynomial, poly_scale}
+use Rattle.monomials.specs.Polynomials.{Polynomial, poly_scale, Each, IsPolynomial}
 use Rattle.monomials.specs.Leading.{leading_coefficient}
 use Rattle.word_model.specs.Words.{Algebra}
 use Rattle.word_model.specs.Reduction.{Reduced, reduce}
-use Rattle.word_model.specs.Jobs.{without, least_job, start_of, chain_witness}
+use Rattle.word_model.specs.Jobs.{without, least_job, start_of, chain_witness, IsJob, NamesNonzero}
 use Rattle.word_model.specs.declared.records.Job.{Job}
 use Rattle.word_model.specs.declared.records.Job.TheVariants.{Seed, Pair, Right}
 use Rattle.word_model.specs.declared.records.Mode.{Mode}
@@ -121,3 +121,14 @@ run_within A gens mode budget (suc k) s = after_turn (run_within A gens mode bud
 -- The journal of the machine. Each step but the last adds an entry, and there are at most as many as the budget.
 unfoldable pub machine : Algebra → List Polynomial → Mode → ℕ → Journal
 machine A gens mode budget = run_within A gens mode budget (suc budget) (first_state gens)
+
+-- ---- what every state of a run has
+
+-- an element of a basis: a polynomial of the algebra that is not zero
+abbrev pub IsElement : Algebra → Polynomial → Type 0
+IsElement A g = IsPolynomial A.p A.order g × (g ≢ [])
+
+-- the elements are nonzero polynomials, and the jobs name nonzero generators, nonzero elements and variables that there are
+pub record IsState (A : Algebra) (gens : List Polynomial) (s : State) : Type 0 where
+  pub elements : Each (IsElement A) s.basis
+  pub jobs : Each (λ job. IsJob (length gens) (length s.basis) A.order.vars job × NamesNonzero gens s.basis job) s.queue

@@ -1,0 +1,99 @@
+//! The records of a run, and what makes one: an engine.
+#![tactic(auto)]
+
+ghost use Rattle.std.specs.Prelude.{◌≡◌, ◌≤◌, IfOk, List, length};
+ghost use Rattle.monomials.specs.Polynomials.{Polynomial, Each, IsPolynomial};
+ghost use Rattle.word_model.specs.Reduction.{element};
+ghost use Rattle.word_model.specs.Machine.{machine};
+
+use algebra::Algebra;
+use gpoly::GPoly;
+use std::alloc::{AllocError, Global};
+use std::marker::Model;
+
+pub use word_model::records::{Entry, Job, Mode, Outcome, Trace, TraceStep};
+
+/// A run of the machine: what it did with its jobs in order, the basis that it made, and how it
+/// ended. The basis is a Gröbner basis where the outcome is `Finished`.
+#[derive(Debug, Drop)]
+pub struct Journal {
+    pub entries: Vec<Entry>,
+    pub basis: Vec<GPoly>,
+    pub outcome: Outcome,
+}
+
+impl Model for Journal {
+    ghost use Rattle.word_model.specs.Machine.{Journal as Run};
+
+    ghost Value = { Run };
+
+    ghost view = { λ j. record { entries = j.entries.items; basis = j.basis.items; outcome = j.outcome } };
+}
+
+/// The finished list of a basis, ascending by leading monomials: each element with its number in
+/// the basis and the steps by which its tail was reduced. Numbers count from 1.
+#[derive(Debug, Drop)]
+pub struct Finished {
+    pub list: Vec<GPoly>,
+    pub origin: Vec<u32>,
+    pub tails: Vec<Trace>,
+}
+
+impl Model for Finished {
+    ghost use Rattle.word_model.specs.Finished.{FinishedList};
+
+    ghost Value = { FinishedList };
+
+    ghost view = { λ f. record { list = f.list.items; origin = f.origin.items; tails = f.tails.items } };
+}
+
+/// A list of polynomials that is read by numbers: a basis, or a part or a view of one. Reading
+/// takes no memory.
+pub trait Elements {
+    /// The polynomials.
+    ghost elements: { Self → List Polynomial };
+
+    /// How many there are.
+    fn count(&self) -> usize
+        ensures { result ≡ length (elements self.now) };
+
+    /// The polynomial of number `k`, counted from 1.
+    fn at(&self, k: u32) -> &GPoly
+        requires first { 1 ≤ k }
+        requires last { k ≤ length (elements self.now) }
+        ensures { result.now ≡ element (elements self.now) k };
+}
+
+impl Elements for Vec<GPoly> {
+    ghost elements = { λ v. v.items };
+
+    fn count(&self) -> usize {
+        self.len()
+    }
+
+    fn at(&self, k: u32) -> &GPoly {
+        &self[k as usize - 1]
+    }
+}
+
+/// What computes bases: it runs the machine, on one thread or on many.
+pub trait Engine {
+    /// What an engine needs to run: nothing on one thread, and with workers that its runtime may be
+    /// shared.
+    ghost can_run: { Self → Type 0 };
+
+    /// The journal of the machine over these generators. Zero generators keep their numbers.
+    fn basis(
+        &mut self,
+        alloc: Global,
+        alg: &Algebra,
+        gens: &[GPoly],
+        mode: Mode,
+        budget: u32,
+    ) -> Result<Journal, AllocError>
+        requires ready { can_run self.old }
+        requires sorted { Each (IsPolynomial alg.now.p alg.now.order) gens.now }
+        requires few { length gens.now ≤ 4096 }
+        requires some { 1 ≤ budget }
+        ensures { IfOk result (λ j. j ≡ machine alg.now gens.now mode budget) };
+}

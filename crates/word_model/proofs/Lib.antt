@@ -21,6 +21,4 @@ pub mod Associativity
 pub mod TermProducts
 mod Rows
 pub mod ReadingLaws
-pub mod Reductions
-pub mod Steps
 mod Runs

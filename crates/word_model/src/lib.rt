@@ -4,4 +4,3 @@
 pub mod laws;
 pub mod reading;
 pub mod records;
-pub mod reducing;

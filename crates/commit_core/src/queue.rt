@@ -1,0 +1,1 @@
+//! The queue of jobs: keys, the least job, and the chain rule.

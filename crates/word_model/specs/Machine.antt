@@ -1,5 +1,5 @@
 -- The one-worker machine: Buchberger's algorithm for left and two-sided bases, a step at a time.
-use Rattle.std.specs.Prelude.{◌≢◌, ℕ, zero, suc, ◌-◌, nat_le, List, [], ◌∷◌, ◌++◌, length, Option, Some, None, if◌then◌else◌}
+use Rattle.std.specs.Prelude.{◌≢◌, ℕ, zero, suc, ◌-◌, ◌≤◌, nat_le, List, [], ◌∷◌, ◌++◌, length, Option, Some, None, if◌then◌else◌}
 use Rattle.prime_field.specs.Modular.{inverse}
 use Rattle.monomials.specs.Polynomials.{Polynomial, poly_scale, Each, IsPolynomial}
 use Rattle.monomials.specs.Leading.{leading_coefficient}
@@ -128,7 +128,9 @@ machine A gens mode budget = run_within A gens mode budget (suc budget) (first_s
 abbrev pub IsElement : Algebra → Polynomial → Type 0
 IsElement A g = IsPolynomial A.p A.order g × (g ≢ [])
 
--- the elements are nonzero polynomials, and the jobs name nonzero generators, nonzero elements and variables that there are
+-- the elements are nonzero polynomials, at most as many as a basis may have, and the jobs name nonzero generators,
+-- nonzero elements and variables that there are
 pub record IsState (A : Algebra) (gens : List Polynomial) (s : State) : Type 0 where
   pub elements : Each (IsElement A) s.basis
+  pub few : length s.basis ≤ most_elements
   pub jobs : Each (λ job. IsJob (length gens) (length s.basis) A.order.vars job × NamesNonzero gens s.basis job) s.queue

@@ -21,6 +21,7 @@ pub mod Associativity
 pub mod TermProducts
 mod Rows
 pub mod ReadingLaws
+pub mod LeastNumbers
 pub mod Reductions
 pub mod Steps
 mod Runs

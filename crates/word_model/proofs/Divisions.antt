@@ -1,5 +1,5 @@
 -- Quotients: of numbers modulo p, and of monomials.
-use Rattle.std.proofs.Common.{◌≡◌, ℕ, zero, suc, ◌+◌, ◌-◌, ◌*◌, ◌%◌, ◌<◌, ◌≤◌, ◌⊎◌, inl, inr, nat_le, ◌==◌, Bool, true, false, List, [], ◌∷◌, length, if◌then◌else◌, refl, sym, ap, ◌∙◌, arith, mod-lt}
+use Rattle.std.proofs.Common.{◌≡◌, ℕ, zero, suc, ◌+◌, ◌-◌, ◌*◌, ◌%◌, ◌<◌, ◌≤◌, ◌⊎◌, inl, inr, nat_le, ◌==◌, Bool, true, false, [], ◌∷◌, length, if◌then◌else◌, refl, sym, ap, ◌∙◌, arith, mod-lt}
 use Rattle.std.proofs.Math.Nat.{mod-eq_of_lt}
 use Rattle.std.proofs.lemmas.Bool.{and_parts, leb-true}
 use Rattle.std.proofs.lemmas.Bool.Decides.{nat_tests}
@@ -9,11 +9,9 @@ use Rattle.monomials.proofs.Modulo.{Same, same_refl, same_rest, same_mul, same_m
 use Rattle.monomials.proofs.Exponents.{length-zip_with}
 use Rattle.word_model.specs.Conditions.{NonZero, IsField}
 use Rattle.word_model.specs.Reduction.{quotient}
+use Rattle.word_model.proofs.LeastNumbers.{here_or_later}
 
 -- ---- numbers
-
-here_or_later : (b c : ℕ) → b ≤ c → (b ≡ c) ⊎ (suc b ≤ c)
-here_or_later b c h = grind arith
 
 -- where one of the k numbers from b on has the product 1 with a, the search for it finds such a number
 inverse_from-meets : (p a b k c : ℕ) → b ≤ c → c < b + k → (a * c) % p ≡ 1 → (a * inverse_from p a b k) % p ≡ 1

@@ -1,9 +1,9 @@
 -- A step subtracts a multiple of an element: the terms above its target stay, and all behind them is below it.
-use Rattle.std.proofs.Common.{◌≡◌, ◌≢◌, ℕ, suc, ◌+◌, ◌-◌, ◌*◌, ◌%◌, ◌<◌, ◌≤◌, ◌⊎◌, inl, inr, true, Less, Equal, Greater, List, [], ◌∷◌, ◌++◌, length, refl, sym, ap, ◌∙◌, subst, arith, le_trans}
+use Rattle.std.proofs.Common.{◌≡◌, ◌≢◌, ℕ, ◌+◌, ◌-◌, ◌*◌, ◌<◌, ◌≤◌, ◌⊎◌, inl, inr, true, Less, Equal, Greater, List, [], ◌∷◌, ◌++◌, length, refl, sym, ap, ◌∙◌, subst, arith}
 use Rattle.std.proofs.Math.Nat.{mod-eq_of_lt}
 use Rattle.std.proofs.lemmas.Bool.{leb-true}
 use Rattle.monomials.specs.Monomials.{Monomial, degree, plus, minus}
-use Rattle.monomials.specs.Polynomials.{Polynomial, Each, HasVars, IsAbove, IsCanonical, IsPolynomial, cons_nonzero, insert_term, poly_add, poly_scale, poly_degree}
+use Rattle.monomials.specs.Polynomials.{Polynomial, Each, HasVars, IsCanonical, IsPolynomial, cons_nonzero, insert_term, poly_add, poly_scale, poly_degree}
 use Rattle.monomials.specs.Leading.{leading_monomial, leading_coefficient}
 use Rattle.monomials.proofs.Modulo.{Same, same_refl, same_add, same_mul, same_none}
 use Rattle.monomials.proofs.Insertion.{cons_nonzero-positive, insert_term_cases}
@@ -14,12 +14,12 @@ use Rattle.monomials.proofs.Keys.{Each-second, Each-weaker, EachKey, EachKey-pol
 use Rattle.monomials.proofs.Operations.{IsPolynomial-poly_add, IsPolynomial-poly_scale}
 use Rattle.word_model.specs.Words.{Algebra}
 use Rattle.word_model.specs.Conditions.{NonZero, IsAccepted}
-use Rattle.word_model.specs.Products.{product, degree_limit}
+use Rattle.word_model.specs.Products.{degree_limit}
 use Rattle.word_model.specs.Reduction.{element, quotient, multiple, is_within, step_by, less_step}
 use Rattle.word_model.specs.declared.records.TraceStep.{TraceStep}
 use Rattle.word_model.proofs.NormalForms.{row_weight, weigh-product, product_is_polynomial, same_weights}
 use Rattle.word_model.proofs.LeadingMonomials.{order, NonZero-below, rest_below, leading_monomial-product}
-use Rattle.word_model.proofs.Degrees.{HasDegrees, HasDegrees-poly_degree, poly_degree-le, poly_degree-product}
+use Rattle.word_model.proofs.Degrees.{HasDegrees-poly_degree, poly_degree-le, poly_degree-product}
 use Rattle.word_model.proofs.LeastNumbers.{Each-element, IsFirstDivisor}
 use Rattle.word_model.proofs.Divisions.{quotient-times, length-minus, plus-minus}
 use Rattle.word_model.proofs.Targets.{IsBelow}

@@ -1,13 +1,12 @@
 -- Reductions: each step leads downwards, so their fuel is enough, and what they leave are polynomials of the algebra.
-use Rattle.std.proofs.Common.{◌≡◌, ◌≢◌, ℕ, zero, suc, ◌+◌, ◌^◌, ◌<◌, ◌≤◌, max, Less, Bool, true, false, List, [], ◌∷◌, ◌++◌, length, Option, Some, None, if◌then◌else◌, refl, sym, ap, ◌∙◌, subst, arith}
-use Rattle.monomials.specs.Monomials.{Monomial, degree, plus}
-use Rattle.monomials.specs.Polynomials.{Polynomial, Each, IsPolynomial, poly_scale, poly_degree}
-use Rattle.monomials.specs.Leading.{leading_monomial}
+use Rattle.std.proofs.Common.{◌≡◌, ℕ, zero, suc, ◌+◌, ◌^◌, ◌<◌, ◌≤◌, max, Less, Bool, true, false, List, ◌∷◌, ◌++◌, Option, Some, None, if◌then◌else◌, refl, sym, ap, ◌∙◌, subst, arith}
+use Rattle.monomials.specs.Monomials.{Monomial, degree}
+use Rattle.monomials.specs.Polynomials.{Polynomial, Each, IsPolynomial, poly_degree}
 use Rattle.monomials.proofs.Keys.{Each-second}
 use Rattle.word_model.specs.Words.{Algebra}
 use Rattle.word_model.specs.Conditions.{IsAccepted}
 use Rattle.word_model.specs.Products.{degree_limit}
-use Rattle.word_model.specs.Reduction.{element, multiple, is_within, Target, leading_target, greatest_target, tail_target, step_by, less_step, Next, Ends, Undefined, Goes, next_step, Reduced, after_step, steps_within, enough_steps, reduce, normal_form_by, reduce_tail}
+use Rattle.word_model.specs.Reduction.{element, is_within, Target, leading_target, greatest_target, tail_target, step_by, less_step, Next, Ends, Undefined, Goes, next_step, Reduced, after_step, steps_within, enough_steps, reduce, normal_form_by, reduce_tail}
 use Rattle.word_model.proofs.LeadingMonomials.{order}
 use Rattle.word_model.proofs.Ranks.{IsIn, monomials_up_to, rank, rank_falls}
 use Rattle.word_model.proofs.MoreRanks.{rank-below, IsIn-degree}

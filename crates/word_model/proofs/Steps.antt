@@ -13,21 +13,20 @@ use Rattle.prime_field.specs.Modular.{inverse}
 use Rattle.word_model.specs.Words.{Algebra}
 use Rattle.word_model.specs.Conditions.{IsAccepted, NonZero}
 use Rattle.word_model.specs.Products.{product, in_reach, variable_polynomial}
-use Rattle.word_model.specs.Reduction.{element, multiple, Reduced, reduce}
+use Rattle.word_model.specs.Reduction.{element, Reduced, reduce}
 use Rattle.word_model.specs.Jobs.{IsJob, NamesNonzero, start_of, s_polynomial, pair_within, without, same_job, least_job, key_cmp, chain_witness}
-use Rattle.word_model.specs.Machine.{State, Turn, On, Over, Journal, step, seeds_from, first_state, pairs_with, rights_of, jobs_of, with_entry, with_element, turn_of_rest, turn_of_start, turn_of_job, most_elements, ends_with, after_turn, run_within, machine, IsElement, IsState}
+use Rattle.word_model.specs.Machine.{State, Turn, On, Over, step, seeds_from, first_state, pairs_with, rights_of, jobs_of, with_entry, with_element, turn_of_rest, turn_of_start, turn_of_job, most_elements, after_turn, run_within, machine, IsElement, IsState}
 use Rattle.word_model.proofs.NormalForms.{product_is_polynomial}
 use Rattle.word_model.proofs.LeastNumbers.{Each-element}
 use Rattle.word_model.proofs.Divisions.{inverse-is}
 use Rattle.word_model.proofs.Multiples.{leading_coefficient-nonzero}
 use Rattle.word_model.proofs.Reductions.{reduce-sorted}
-use Rattle.word_model.specs.declared.records.TraceStep.{TraceStep}
 use Rattle.word_model.specs.declared.records.Job.{Job}
 use Rattle.word_model.specs.declared.records.Job.TheVariants.{Seed, Pair, Right}
 use Rattle.word_model.specs.declared.records.Mode.{Mode}
 use Rattle.word_model.specs.declared.records.Mode.TheVariants.{Left, TwoSided}
 use Rattle.word_model.specs.declared.records.Entry.{Entry}
-use Rattle.word_model.specs.declared.records.Outcome.{Outcome}
+use Rattle.word_model.specs.declared.records.Entry.TheVariants.{Zero}
 use Rattle.word_model.specs.declared.records.Outcome.TheVariants.{Finished, BudgetSpent, BasisFull, DegreeOver}
 
 -- ---- lists
@@ -87,14 +86,18 @@ IsTreated-longer gens G g n (Seed s) h = h
 IsTreated-longer gens G g n (Pair i j) h =
     let longer : length (G ++ g ∷ []) ≡ suc (length G) = length-append G (g ∷ []) ∙ omega arith in
     let j_low : 1 ≤ j = omega (arith, h.0.0, h.0.1) in
-    let i_high : i ≤ length G = omega (arith, h.0.1, h.0.2) in
-    ((h.0.0, h.0.1, omega (arith, h.0.2, longer)),
-    (subst (λ f. f ≢ []) (sym (element-append G (g ∷ []) i h.0.0 i_high)) h.1.0,
-    subst (λ f. f ≢ []) (sym (element-append G (g ∷ []) j j_low h.0.2)) h.1.1))
+    let i_high : i ≤ length G = omega (arith, h.0.1, h.0.2) in (
+      (h.0.0, h.0.1, omega (arith, h.0.2, longer)),
+      (
+        subst (λ f. f ≢ []) (sym (element-append G (g ∷ []) i h.0.0 i_high)) h.1.0,
+        subst (λ f. f ≢ []) (sym (element-append G (g ∷ []) j j_low h.0.2)) h.1.1,
+      ),
+    )
 IsTreated-longer gens G g n (Right i v) h =
-    let longer : length (G ++ g ∷ []) ≡ suc (length G) = length-append G (g ∷ []) ∙ omega arith in
-    ((h.0.0, omega (arith, h.0.1, longer), h.0.2, h.0.3),
-    subst (λ f. f ≢ []) (sym (element-append G (g ∷ []) i h.0.0 h.0.1)) h.1)
+    let longer : length (G ++ g ∷ []) ≡ suc (length G) = length-append G (g ∷ []) ∙ omega arith in (
+      (h.0.0, omega (arith, h.0.1, longer), h.0.2, h.0.3),
+      subst (λ f. f ≢ []) (sym (element-append G (g ∷ []) i h.0.0 h.0.1)) h.1,
+    )
 
 module _ (gens G : List Polynomial) (g : Polynomial) (n : ℕ) (nonzero : g ≢ []) (others : Each (λ f. f ≢ []) G) where
   longer_is : length (G ++ g ∷ []) ≡ suc (length G)
@@ -108,10 +111,16 @@ module _ (gens G : List Polynomial) (g : Polynomial) (n : ℕ) (nonzero : g ≢ 
   pairs_with-treated zero few = tt
   pairs_with-treated (suc k) few =
       Each-append (IsTreated gens (G ++ g ∷ []) n) (pairs_with (suc (length G)) k) (Pair (suc k) (suc (length G)) ∷ [])
-      (pairs_with-treated k (omega arith))
-      (((omega arith, omega arith, omega (arith, longer_is)),
-      (subst (λ f. f ≢ []) (sym (element-append G (g ∷ []) (suc k) (omega arith) few)) (Each-element (λ f. f ≢ []) G (suc k) others (omega arith) few),
-      last_nonzero)), tt)
+      (pairs_with-treated k (omega arith)) (
+        (
+          (omega arith, omega arith, omega (arith, longer_is)),
+          (
+            subst (λ f. f ≢ []) (sym (element-append G (g ∷ []) (suc k) (omega arith) few)) (Each-element (λ f. f ≢ []) G (suc k) others (omega arith) few),
+            last_nonzero,
+          ),
+        ),
+        tt,
+      )
 
   -- and so do its products with variables
   rights_of-treated : (k : ℕ) → k ≤ n → Each (IsTreated gens (G ++ g ∷ []) n) (rights_of (suc (length G)) k)
@@ -184,15 +193,16 @@ module _ (A : Algebra) (ok : IsAccepted A) (gens : List Polynomial) (sorted : Ea
           subst (IsPolynomial A.p A.order) is (product_sorted _ _)
       by false e = cc
 
+  at_start : (k : ℕ) → element gens (1 + k) ≡ slice_index_or gens k []
+  at_start k = let plain : 1 + k - 1 ≡ k = omega arith in ap (λ x. slice_index_or gens x []) plain
+
+  -- the first state is one
   pub first_state-is : IsState A gens (first_state gens)
   first_state-is = record {
     elements = tt;
     few = omega arith;
-    jobs = seeds_from-treated gens A.order.vars 1 gens (λ k below. (omega arith, first k)) (omega arith);
+    jobs = seeds_from-treated gens A.order.vars 1 gens (λ k below. (omega arith, at_start k)) (omega arith);
   }
-  where
-    first : (k : ℕ) → element gens (1 + k) ≡ slice_index_or gens k []
-    first k = let plain : 1 + k - 1 ≡ k = omega arith in ap (λ x. slice_index_or gens x []) plain
 
   -- a job that leaves the queue leaves the rest as it was
   with_entry-is : (s : State) (job : Job) (entry : Entry) → IsState A gens s → IsState A gens (with_entry s job entry)
@@ -207,7 +217,7 @@ module _ (A : Algebra) (ok : IsAccepted A) (gens : List Polynomial) (sorted : Ea
   monic-is [] f_is nonzero = absurd (nonzero refl)
   monic-is (t ∷ f) f_is nonzero =
       let k : ℕ = inverse A.p t.0 in
-      let regular : NonZero A.p t.0 = leading_coefficient-nonzero A ok (t ∷ f) f_is.canonical nonzero in
+      let regular : NonZero A.p t.0 = leading_coefficient-nonzero A (t ∷ f) f_is.canonical nonzero in
       let unit : Same A.p (t.0 * k) 1 = inverse-is A.p t.0 ok.field regular in
       let more : 1 < A.p = ok.field.more in
       let one : (k * t.0) % A.p ≡ 1 = ap (λ x. x % A.p) (turn k t.0) ∙ unit ∙ mod-eq_of_lt more in
@@ -238,13 +248,17 @@ module _ (A : Algebra) (ok : IsAccepted A) (gens : List Polynomial) (sorted : Ea
   IsTurn (Over outcome) = Unit {0}
 
   turn_of_rest-is : (mode : Mode) (s : State) (job : Job) (r : Reduced) → IsState A gens s → IsPolynomial A.p A.order r.rest → IsTurn (turn_of_rest A mode s job r)
-  turn_of_rest-is mode s job (record { trace = trace; rest = rest; over = true }) is rest_is = tt
-  turn_of_rest-is mode s job (record { trace = trace; rest = []; over = false }) is rest_is = with_entry-is s job _ is
-  turn_of_rest-is mode s job (record { trace = trace; rest = t ∷ f; over = false }) is rest_is = by (nat_le most_elements (length s.basis)) refl
+  turn_of_rest-is mode s job r is rest_is = by r.over r.rest (nat_le most_elements (length s.basis)) refl refl
     where
-      by : (b : Bool) → nat_le most_elements (length s.basis) ≡ b → IsTurn (if b then Over BasisFull else On (with_element A mode s job (record { trace = trace; rest = t ∷ f; over = false })))
-      by true e = tt
-      by false e = with_element-is mode s job _ is rest_is (λ no. cc) (grind (arith, nat_tests, e))
+      by : (over : Bool) (rest : Polynomial) (full : Bool) → r.rest ≡ rest → nat_le most_elements (length s.basis) ≡ full
+          → IsTurn (if over then Over DegreeOver else elim rest [
+            | [] ↦ On (with_entry s job (Zero job r.trace))
+            | t ∷ f ↦ if full then Over BasisFull else On (with_element A mode s job r)
+          ])
+      by true rest full e room = tt
+      by false [] full e room = with_entry-is s job (Zero job r.trace) is
+      by false (t ∷ f) true e room = tt
+      by false (t ∷ f) false e room = with_element-is mode s job r is rest_is (λ no. (let none : t ∷ f ≡ [] = sym e ∙ no in cc)) (grind (arith, nat_tests, room))
 
   turn_of_start-is : (mode : Mode) (s : State) (job : Job) (h : Option Polynomial) → IsState A gens s → ((f : Polynomial) → h ≡ Some f → IsPolynomial A.p A.order f) → IsTurn (turn_of_start A mode s job h)
   turn_of_start-is mode s job None is h_is = tt
@@ -260,17 +274,20 @@ module _ (A : Algebra) (ok : IsAccepted A) (gens : List Polynomial) (sorted : Ea
 
   step-is : (mode : Mode) (budget : ℕ) (s : State) → IsState A gens s → IsTurn (step A gens mode budget s)
   unfolding step
-  step-is mode budget (record { entries = entries; basis = basis; queue = [] }) is = tt
-  step-is mode budget (record { entries = entries; basis = basis; queue = first ∷ queue }) is = by (nat_le budget (length entries))
+  step-is mode budget s is = by s.queue refl (nat_le budget (length s.entries))
     where
-      s : State
-      s = record { entries = entries; basis = basis; queue = first ∷ queue }
-
-      by : (b : Bool) → IsTurn (if b then Over BudgetSpent else (let job : Job = least_job A gens basis first queue in turn_of_job A gens mode s job (chain_witness basis (first ∷ queue) job)))
-      by true = tt
-      by false =
-          turn_of_job-is mode s (least_job A gens basis first queue) (chain_witness basis (first ∷ queue) (least_job A gens basis first queue)) is
-          (least_job-one (IsTreated gens basis A.order.vars) A gens basis first queue is.jobs.0 is.jobs.1)
+      by : (queue : List Job) → s.queue ≡ queue → (spent : Bool) → IsTurn (elim queue [
+        | [] ↦ Over Finished
+        | first ∷ queue ↦ if spent then Over BudgetSpent
+            else (let job : Job = least_job A gens s.basis first queue in turn_of_job A gens mode s job (chain_witness s.basis s.queue job))
+      ])
+      by [] e spent = tt
+      by (first ∷ queue) e true = tt
+      by (first ∷ queue) e false =
+          let jobs : Each (IsTreated gens s.basis A.order.vars) (first ∷ queue) = subst (Each (IsTreated gens s.basis A.order.vars)) e is.jobs in
+          let job : Job = least_job A gens s.basis first queue in
+          turn_of_job-is mode s job (chain_witness s.basis s.queue job) is
+          (least_job-one (IsTreated gens s.basis A.order.vars) A gens s.basis first queue jobs.0 jobs.1)
 
   -- what every state has is kept by a step
   pub step-keeps : (mode : Mode) (budget : ℕ) (s s' : State) → IsState A gens s → step A gens mode budget s ≡ On s' → IsState A gens s'

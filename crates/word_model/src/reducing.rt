@@ -1,11 +1,11 @@
 //! Laws of reductions and of runs of the machine, each the contract of a function without a body.
 
-ghost use Rattle.std.specs.Prelude.{◌≡◌, ℕ, List, Option, Some};
+ghost use Rattle.std.specs.Prelude.{◌≡◌, ◌≤◌, ℕ, List, length};
 ghost use Rattle.monomials.specs.Polynomials.{Polynomial, Each, IsPolynomial};
 ghost use Rattle.word_model.specs.Words.{Algebra};
 ghost use Rattle.word_model.specs.Conditions.{IsAccepted};
 ghost use Rattle.word_model.specs.Reduction.{leading_target, greatest_target, tail_target, next_step, after_step, reduce, normal_form_by, reduce_tail};
-ghost use Rattle.word_model.specs.Machine.{machine, IsElement};
+ghost use Rattle.word_model.specs.Machine.{machine, most_elements, IsElement};
 ghost use Rattle.word_model.specs.declared.records.Mode.{Mode};
 
 /// Reductions as recursions: a reduction is its first step and the reduction of what that leaves.
@@ -26,8 +26,10 @@ pub fn reductions()
         × IsPolynomial A.p A.order (reduce_tail A G h).rest }
 {}
 
-/// The basis of a run has nonzero polynomials of the algebra alone.
+/// The basis of a run has nonzero polynomials of the algebra alone, at most 2048 of them.
 pub fn runs()
-    ensures { (A : Algebra) (gens : List Polynomial) (mode : Mode) (budget : ℕ) → IsAccepted A →
+    ensures elements { (A : Algebra) (gens : List Polynomial) (mode : Mode) (budget : ℕ) → IsAccepted A →
         Each (IsPolynomial A.p A.order) gens → Each (IsElement A) (machine A gens mode budget).basis }
+    ensures few { (A : Algebra) (gens : List Polynomial) (mode : Mode) (budget : ℕ) → IsAccepted A →
+        Each (IsPolynomial A.p A.order) gens → length (machine A gens mode budget).basis ≤ most_elements }
 {}

@@ -1,2 +1,3 @@
-pub mod LeastNumbers
-pub mod Reductions
+pub mod Factors
+pub mod Found
+pub mod Made

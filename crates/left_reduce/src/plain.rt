@@ -215,6 +215,7 @@ fn next_step<B: Elements>(
     ensures { IfOk result (λ n.
         next_step alg.now (B.elements basis.now) h.now (Some (target_of target.now)) ≡ next_of n) }
 {
+    let _n = alg.n();
     let field = alg.field();
     let element = basis.at(target.index);
     let mono = target.term.mono.minus(&lead(element).mono);
@@ -249,6 +250,7 @@ fn s_polynomial(
     ensures over { result ≡ Err ProductFault.DegreeOver → both_within f.now g.now ≡ false }
     ensures sorted { IfOk result (λ h. IsPolynomial alg.now.p alg.now.order h) }
 {
+    let _n = alg.n();
     let field = alg.field();
     let (f_lead, g_lead) = (lead(f), lead(g));
     let reached = f_lead.mono.lcm(&g_lead.mono);
@@ -274,6 +276,7 @@ fn multiple(
     ensures over { result ≡ Err ProductFault.DegreeOver → is_within mono.now g.now ≡ false }
     ensures sorted { IfOk result (λ r. IsPolynomial alg.now.p alg.now.order r) }
 {
+    let _n = alg.n();
     if mono.degree() + g.degree() > DEGREE_LIMIT {
         return Err(ProductFault::DegreeOver);
     }

@@ -21,4 +21,10 @@ pub mod Associativity
 pub mod TermProducts
 mod Rows
 pub mod ReadingLaws
+pub mod LeastNumbers
+pub mod Divisions
+pub mod Targets
+pub mod Multiples
+mod MoreRanks
+pub mod Reductions
 mod Runs

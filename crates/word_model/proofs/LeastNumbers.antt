@@ -1,11 +1,12 @@
 -- The least number that meets a test, and the first element whose leading monomial divides a monomial.
-use Rattle.std.proofs.Common.{◌≡◌, ◌≢◌, ℕ, zero, suc, ◌+◌, ◌-◌, ◌<◌, ◌≤◌, ◌⊎◌, inl, inr, Bool, true, false, List, [], ◌∷◌, length, Option, Some, None, if◌then◌else◌, slice_index_or, refl, sym, ap, ◌∙◌, subst, arith, le_refl}
+use Rattle.std.proofs.Common.{◌≡◌, ◌≢◌, ℕ, zero, suc, ◌+◌, ◌-◌, ◌<◌, ◌≤◌, ◌⊎◌, inl, inr, Bool, true, false, List, [], ◌∷◌, length, Some, None, if◌then◌else◌, slice_index_or, refl, sym, ap, ◌∙◌, subst, arith, le_refl}
 use Rattle.monomials.specs.Monomials.{Monomial, divides}
 use Rattle.monomials.specs.Polynomials.{Polynomial, Each}
 use Rattle.monomials.specs.Leading.{leading_monomial}
 use Rattle.word_model.specs.Reduction.{element, least_number, lead_divides, first_divisor}
 
-here_or_later : (i x : ℕ) → i ≤ x → (i ≡ x) ⊎ (suc i ≤ x)
+-- a number from i on is i or a later one
+pub here_or_later : (i x : ℕ) → i ≤ x → (i ≡ x) ⊎ (suc i ≤ x)
 here_or_later i x h = grind arith
 
 module _ (test : ℕ → Bool) where

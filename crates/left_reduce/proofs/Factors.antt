@@ -20,7 +20,7 @@ one_term cmp p m above_one = ap (λ c. cons_nonzero c m []) (mod-eq_of_lt above_
 
 -- ---- leading terms
 
-pub length-leading : (n : ℕ) (f : Polynomial) → HasVars n f → f ≢ [] → length (leading_monomial f) ≡ n
+length-leading : (n : ℕ) (f : Polynomial) → HasVars n f → f ≢ [] → length (leading_monomial f) ≡ n
 length-leading n [] vars nonzero = absurd (nonzero refl)
 length-leading n (t ∷ f) vars nonzero = vars.0
 
@@ -34,14 +34,14 @@ leading-below cmp p (t ∷ f) h nonzero = h.1
 
 -- ---- least common multiples
 
-pub divides-lcm_first : (a b : Monomial) → length a ≡ length b → divides a (lcm a b) ≡ true
+divides-lcm_first : (a b : Monomial) → length a ≡ length b → divides a (lcm a b) ≡ true
 divides-lcm_first [] b e = refl
 divides-lcm_first (x ∷ a) [] e = absurd (omega arith)
 divides-lcm_first (x ∷ a) (y ∷ b) e =
     let le : x ≤ max x y = omega arith in
     and_from (nat_le x (max x y)) (divides a (lcm a b)) (le-leb x (max x y) le) (divides-lcm_first a b (omega arith))
 
-pub divides-lcm_second : (a b : Monomial) → length a ≡ length b → divides b (lcm a b) ≡ true
+divides-lcm_second : (a b : Monomial) → length a ≡ length b → divides b (lcm a b) ≡ true
 divides-lcm_second [] [] e = refl
 divides-lcm_second [] (y ∷ b) e = absurd (omega arith)
 divides-lcm_second (x ∷ a) [] e = absurd (omega arith)
@@ -49,12 +49,32 @@ divides-lcm_second (x ∷ a) (y ∷ b) e =
     let le : y ≤ max x y = omega arith in
     and_from (nat_le y (max x y)) (divides b (lcm a b)) (le-leb y (max x y) le) (divides-lcm_second a b (omega arith))
 
--- the quotient of the least common multiple by the second has as many exponents
-pub length-cofactor : (n : ℕ) (a b : Monomial) → length a ≡ n → length b ≡ n → length (minus (lcm a b) b) ≡ n
-length-cofactor n a b la lb =
-    let same : length a ≡ length b = omega arith in
-    let whole : length (lcm a b) ≡ length a = length-zip_with (λ x y. max x y) a b same in
-    length-zip_with (λ x y. x - y) (lcm a b) b (omega arith) ∙ whole ∙ la
+-- what is known of the leading monomials of two polynomials, and of their least common multiple
+pub record Reaches (n : ℕ) (f g : Polynomial) : Type 0 where
+  pub f_vars : length (leading_monomial f) ≡ n
+  pub g_vars : length (leading_monomial g) ≡ n
+  pub lcm_vars : length (lcm (leading_monomial f) (leading_monomial g)) ≡ n
+  pub f_divides : divides (leading_monomial f) (lcm (leading_monomial f) (leading_monomial g)) ≡ true
+  pub g_divides : divides (leading_monomial g) (lcm (leading_monomial f) (leading_monomial g)) ≡ true
+  pub f_quotient : length (minus (lcm (leading_monomial f) (leading_monomial g)) (leading_monomial f)) ≡ n
+  pub g_quotient : length (minus (lcm (leading_monomial f) (leading_monomial g)) (leading_monomial g)) ≡ n
+
+pub reaches : (n : ℕ) (f g : Polynomial) → HasVars n f → HasVars n g → f ≢ [] → g ≢ [] → Reaches n f g
+reaches n f g f_has g_has f_nonzero g_nonzero =
+    let a : Monomial = leading_monomial f in
+    let b : Monomial = leading_monomial g in
+    let la : length a ≡ n = length-leading n f f_has f_nonzero in
+    let lb : length b ≡ n = length-leading n g g_has g_nonzero in
+    let ll : length (lcm a b) ≡ n = length-zip_with (λ x y. max x y) a b (la ∙ sym lb) ∙ la in
+    record {
+      f_vars = la;
+      g_vars = lb;
+      lcm_vars = ll;
+      f_divides = divides-lcm_first a b (la ∙ sym lb);
+      g_divides = divides-lcm_second a b (la ∙ sym lb);
+      f_quotient = length-zip_with (λ x y. x - y) (lcm a b) a (ll ∙ sym la) ∙ ll;
+      g_quotient = length-zip_with (λ x y. x - y) (lcm a b) b (ll ∙ sym lb) ∙ ll;
+    }
 
 -- ---- multiples
 

@@ -1,3 +1,4 @@
 pub mod Factors
 pub mod Found
 pub mod Made
+pub mod Falling

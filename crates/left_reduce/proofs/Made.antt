@@ -54,10 +54,10 @@ module _ (A : Algebra) (ok : IsAccepted A) where
       let l : Monomial = lcm (leading_monomial f) (leading_monomial g) in
       let first_is : first ≡ multiple A 1 (minus l (leading_monomial f)) f = is_first ∙ ap (λ m. multiple A 1 m f) is_a in
       let second_is : second ≡ multiple A 1 (minus l (leading_monomial g)) g = is_second ∙ ap (λ m. multiple A 1 m g) is_b in
-      let k_is : k ≡ quotient A.p (leading_coefficient (multiple A 1 (minus l (leading_monomial f)) f)) (leading_coefficient (multiple A 1 (minus l (leading_monomial g)) g)) =
-      number ∙ (λ j. quotient A.p (leading_coefficient (first_is j)) (leading_coefficient (second_is j))) in
-      less_multiple first g (minus l (leading_monomial g)) k _ second (ap length (sym is_b) ∙ vars) g_is k_is second_is
-      ∙ ap (λ f. poly_sub (order_cmp A.order.rows) A.p f (multiple A _ (minus l (leading_monomial g)) g)) first_is
+      let k' : ℕ = quotient A.p (leading_coefficient (multiple A 1 (minus l (leading_monomial f)) f)) (leading_coefficient (multiple A 1 (minus l (leading_monomial g)) g)) in
+      let k_is : k ≡ k' = number ∙ (λ j. quotient A.p (leading_coefficient (first_is j)) (leading_coefficient (second_is j))) in
+      less_multiple first g (minus l (leading_monomial g)) k k' second (ap length (sym is_b) ∙ vars) g_is k_is second_is
+      ∙ ap (λ f. poly_sub (order_cmp A.order.rows) A.p f (multiple A k' (minus l (leading_monomial g)) g)) first_is
 
 -- ---- reductions, a step at a time
 

@@ -17,9 +17,9 @@ module _ (p : ℕ) (n : ℕ) (G : List Polynomial) where
   found_at : (u t : ℕ × Monomial) (i : ℕ) (d : Option ℕ) → first_divisor G u.1 ≡ d → length u.1 ≡ n → u.0 < p → target_at u d ≡ Some (t, i) → IsFound p n G t i
   found_at u t i None is vars small e = cc
   found_at u t i (Some j) is vars small e =
-      let same : u ≡ t = cc in
-      let number : j ≡ i = cc in
-      subst (λ t. IsFound p n G t i) same (record { vars = vars; in_range = small; divisor = is ∙ ap Some number })
+      let same : ◌≡◌ {A = Target} (u, j) (t, i) = cc in
+      let P : Target → Type 0 = λ target. IsFound p n G target.0 target.1 in
+      subst P same (record { vars = vars; in_range = small; divisor = is })
 
   pub leading_target-is : (h : Polynomial) (t : ℕ × Monomial) (i : ℕ) → HasVars n h → HasNumbers p h → leading_target G h ≡ Some (t, i) → IsFound p n G t i
   leading_target-is [] t i vars numbers e = cc

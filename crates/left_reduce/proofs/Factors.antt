@@ -1,10 +1,10 @@
 -- Leading terms and multiples, as the program makes them.
-use Rattle.std.proofs.Common.{◌≡◌, ◌≢◌, ℕ, zero, suc, ◌+◌, ◌-◌, ◌%◌, ◌<◌, ◌≤◌, max, nat_le, Bool, true, false, List, [], ◌∷◌, length, Some, refl, sym, ap, ◌∙◌, arith}
+use Rattle.std.proofs.Common.{◌≡◌, ◌≢◌, ℕ, ◌-◌, ◌<◌, ◌≤◌, max, nat_le, true, List, [], ◌∷◌, length, Some, refl, sym, ap, ◌∙◌, arith}
 use Rattle.std.proofs.Math.Nat.{mod-eq_of_lt}
 use Rattle.std.proofs.lemmas.Bool.{and_from, le-leb}
 use Rattle.std.specs.declared.cmp.Ordering.{Ordering}
 use Rattle.monomials.specs.Monomials.{Monomial, minus, lcm, divides}
-use Rattle.monomials.specs.Orders.{RowOrder, order_cmp}
+use Rattle.monomials.specs.Orders.{RowOrder}
 use Rattle.monomials.specs.Polynomials.{Polynomial, Each, HasVars, IsCanonical, IsPolynomial, cons_nonzero, from_terms}
 use Rattle.monomials.specs.Leading.{leading_monomial, leading_coefficient}
 use Rattle.monomials.proofs.Exponents.{length-zip_with}

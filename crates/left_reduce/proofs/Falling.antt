@@ -1,5 +1,5 @@
 -- A measure of reductions: how many steps may follow.
-use Rattle.std.proofs.Common.{◌≡◌, ℕ, suc, ◌<◌, ◌≤◌, List, length, drop, Option, Some, None, refl, subst₂}
+use Rattle.std.proofs.Common.{◌≡◌, ℕ, suc, ◌<◌, ◌≤◌, List, Option, Some, None, refl, subst₂}
 use Rattle.monomials.specs.Polynomials.{Polynomial, Each, IsPolynomial, poly_degree}
 use Rattle.word_model.specs.Words.{Algebra}
 use Rattle.word_model.specs.Conditions.{IsAccepted}

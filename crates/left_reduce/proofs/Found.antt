@@ -1,9 +1,7 @@
 -- What is known of targets that are found.
-use Rattle.std.proofs.Common.{◌≡◌, ℕ, ◌<◌, List, [], ◌∷◌, length, drop, Option, Some, None, refl, sym, ap, ◌∙◌, subst}
+use Rattle.std.proofs.Common.{◌≡◌, ℕ, ◌<◌, List, [], ◌∷◌, length, Option, Some, None, refl, subst}
 use Rattle.monomials.specs.Monomials.{Monomial}
-use Rattle.monomials.specs.Orders.{RowOrder, order_cmp}
-use Rattle.monomials.specs.Polynomials.{Polynomial, HasVars, IsPolynomial, HasNumbers}
-use Rattle.monomials.proofs.Operations.{HasNumbers-canonical}
+use Rattle.monomials.specs.Polynomials.{Polynomial, HasVars, HasNumbers}
 use Rattle.word_model.specs.Reduction.{first_divisor, Target, target_at, target_or, leading_target, greatest_target, tail_target}
 
 -- a term of a polynomial with its first divisor

@@ -225,7 +225,12 @@ fn next_step<B: Elements>(
         Err(ProductFault::Memory) => return Err(AllocError),
     };
     let coef = quotient(field, target.term.coef, lead(&product).coef);
-    let left = h.sub(alloc, field, alg.order(), &product.scale(alloc, field, coef)?)?;
+    let left = h.sub(
+        alloc,
+        field,
+        alg.order(),
+        &product.scale(alloc, field, coef)?,
+    )?;
     let step = TraceStep {
         coef,
         mono,
@@ -235,12 +240,7 @@ fn next_step<B: Elements>(
 }
 
 // The S-polynomial. `DegreeOver` comes exactly where a product of it has a degree above 4095.
-fn s_polynomial(
-    alloc: Global,
-    alg: &Algebra,
-    f: &GPoly,
-    g: &GPoly,
-) -> Result<GPoly, ProductFault>
+fn s_polynomial(alloc: Global, alg: &Algebra, f: &GPoly, g: &GPoly) -> Result<GPoly, ProductFault>
     requires f_sorted { IsPolynomial alg.now.p alg.now.order f.now }
     requires g_sorted { IsPolynomial alg.now.p alg.now.order g.now }
     requires f_nonzero { f.now ≢ [] }
@@ -263,12 +263,7 @@ fn s_polynomial(
 
 // The product of a monomial and a polynomial. `DegreeOver` comes exactly where their degrees add up
 // to more than 4095.
-fn multiple(
-    alloc: Global,
-    alg: &Algebra,
-    mono: &Expo,
-    g: &GPoly,
-) -> Result<GPoly, ProductFault>
+fn multiple(alloc: Global, alg: &Algebra, mono: &Expo, g: &GPoly) -> Result<GPoly, ProductFault>
     requires vars { length mono.now ≡ alg.now.order.vars }
     requires sorted { IsPolynomial alg.now.p alg.now.order g.now }
     ensures value { IfOk result (λ r. r ≡ multiple alg.now 1 mono.now g.now) }

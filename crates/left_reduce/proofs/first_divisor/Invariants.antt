@@ -1,4 +1,4 @@
-use Rattle.std.proofs.Common.{◌≡◌, ℕ, ◌<◌, ◌≤◌, false, length}
+use Rattle.std.proofs.Common.{◌≡◌, ℕ, ◌<◌, ◌≤◌, false}
 use Rattle.word_model.specs.Reduction.{element, lead_divides}
 use Rattle.left_reduce.proofs.first_divisor.Given as goal
 

@@ -1,5 +1,5 @@
-use Rattle.std.proofs.Common.{◌≡◌, ℕ, ◌≤◌, ◌<◌, Some, max, sym, ap, ◌∙◌, arith}
-use Rattle.monomials.specs.Polynomials.{Each, HasVars, poly_degree}
+use Rattle.std.proofs.Common.{◌≡◌, ◌≤◌, ◌<◌, max, sym, ap, ◌∙◌, arith}
+use Rattle.monomials.specs.Polynomials.{HasVars, poly_degree}
 use Rattle.monomials.proofs.Keys.{Each-weaker}
 use Rattle.monomials.proofs.Operations.{HasNumbers-polynomial}
 use Rattle.gpoly.specs.Terms.{pair_of}

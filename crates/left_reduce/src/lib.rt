@@ -36,3 +36,6 @@ fn lead_divides(element: &GPoly, mono: &Expo) -> bool
         None => false,
     }
 }
+
+#[cfg(test)]
+mod tests;

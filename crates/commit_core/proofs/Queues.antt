@@ -1,0 +1,109 @@
+-- Keys of jobs, the least job, and the jobs that a new element brings.
+use Rattle.std.proofs.Common.{◌≡◌, ◌≢◌, ℕ, zero, suc, ◌+◌, ◌-◌, ◌≤◌, Bool, true, false, List, [], ◌∷◌, ◌++◌, length, drop, get_or, if◌then◌else◌, refl, sym, ap, ◌∙◌, subst, cc, arith, append_assoc}
+use Rattle.std.specs.Ordering.{ordering_then, is_lt}
+use Rattle.monomials.specs.Monomials.{Monomial, lcm, plus, variable}
+use Rattle.monomials.specs.Orders.{order_cmp}
+use Rattle.monomials.specs.Polynomials.{Polynomial, Each, IsPolynomial}
+use Rattle.monomials.specs.Leading.{leading_monomial}
+use Rattle.monomials.proofs.Exponents.{length-zip_with}
+use Rattle.monomials.proofs.Keys.{Each-weaker}
+use Rattle.gpoly.proofs.Lists.{Each-get_or}
+use Rattle.word_model.specs.Words.{Algebra}
+use Rattle.word_model.specs.Reduction.{element}
+use Rattle.word_model.specs.Jobs.{pair_lcm, key_monomial, key_cmp, rank_of, rank_cmp, least_job}
+use Rattle.word_model.specs.Machine.{IsElement, pairs_with, rights_of, seeds_from}
+use Rattle.word_model.specs.declared.records.Job.{Job}
+use Rattle.word_model.specs.declared.records.Job.TheVariants.{Seed, Pair, Right}
+use Rattle.word_model.proofs.Associativity.{length-variable}
+use Rattle.commit_core.specs.Named.{IsNamed}
+use Rattle.commit_core.specs.declared.queue.Keyed.{Keyed}
+
+-- what holds of each polynomial holds of that of number i
+pub Each-element : (P : Polynomial → Type 0) (G : List Polynomial) (i : ℕ) → Each P G → 1 ≤ i → i ≤ length G → P (element G i)
+Each-element P G i h low high = Each-get_or P G (i - 1) [] (omega arith) h
+
+-- elements are polynomials
+pub elements-sorted : (A : Algebra) (G : List Polynomial) → Each (IsElement A) G → Each (IsPolynomial A.p A.order) G
+elements-sorted A G h = Each-weaker _ _ (λ g is. is.0) G h
+
+-- ---- keys
+
+-- a leading monomial has an exponent for each variable
+leading-vars : (A : Algebra) (f : Polynomial) → IsPolynomial A.p A.order f → f ≢ [] → length (leading_monomial f) ≡ A.order.vars
+leading-vars A [] is nonzero = absurd (nonzero refl)
+leading-vars A (t ∷ f) is nonzero = is.vars.0
+
+-- that of a basis element
+pub element-vars : (A : Algebra) (G : List Polynomial) (i : ℕ) → Each (IsElement A) G → 1 ≤ i → i ≤ length G
+    → length (leading_monomial (element G i)) ≡ A.order.vars
+element-vars A G i h low high =
+    let is : IsElement A (element G i) = Each-element (IsElement A) G i h low high in
+    leading-vars A (element G i) is.0 is.1
+
+-- the monomial of a key has an exponent for each variable
+pub key-vars : (A : Algebra) (gens G : List Polynomial) (job : Job) → Each (IsPolynomial A.p A.order) gens → Each (IsElement A) G → IsNamed A gens G job
+    → length (key_monomial A gens G job) ≡ A.order.vars
+key-vars A gens G (Seed s) sorted h named =
+    leading-vars A (element gens s) (Each-element (IsPolynomial A.p A.order) gens s sorted named.0.0 named.0.1) named.1
+key-vars A gens G (Pair i j) sorted h named =
+    let first : length (leading_monomial (element G i)) ≡ A.order.vars = element-vars A G i h named.0.0 (omega (arith, named.0)) in
+    let second : length (leading_monomial (element G j)) ≡ A.order.vars = element-vars A G j h (omega (arith, named.0)) named.0.2 in
+    length-zip_with _ (leading_monomial (element G i)) (leading_monomial (element G j)) (first ∙ sym second) ∙ first
+key-vars A gens G (Right i v) sorted h named =
+    let first : length (leading_monomial (element G i)) ≡ A.order.vars = element-vars A G i h named.0.0 named.0.1 in
+    let second : length (variable A.order.vars v) ≡ A.order.vars = length-variable A.order.vars v named.0.2 named.0.3 in
+    length-zip_with _ (leading_monomial (element G i)) (variable A.order.vars v) (first ∙ sym second) ∙ first
+
+-- ---- the least job
+
+-- a job of a run, with the monomial of its key
+pub record IsKeyed (A : Algebra) (gens G : List Polynomial) (k : Keyed) : Type 0 where
+  pub key : k.monomial ≡ key_monomial A gens G k.job
+  pub vars : length k.monomial ≡ A.order.vars
+  pub named : IsNamed A gens G k.job
+
+-- the lesser of two jobs
+abbrev pub lesser : Algebra → Keyed → Keyed → Keyed
+lesser A a b = if is_lt (ordering_then (order_cmp A.order.rows a.monomial b.monomial) (rank_cmp (rank_of a.job) (rank_of b.job))) then a else b
+
+-- the least job among these is that of the lesser and the others
+pub least_job-step : (A : Algebra) (gens G : List Polynomial) (a b r : Keyed) (jobs : List Job) → IsKeyed A gens G a → IsKeyed A gens G b → r ≡ lesser A a b
+    → (least_job A gens G b.job (a.job ∷ jobs) ≡ least_job A gens G r.job jobs) × IsKeyed A gens G r
+least_job-step A gens G a b r jobs ka kb e = by (is_lt (key_cmp A gens G a.job b.job)) refl (e ∙ ap2_test)
+  where
+    test : Monomial → Monomial → Bool
+    test x y = is_lt (ordering_then (order_cmp A.order.rows x y) (rank_cmp (rank_of a.job) (rank_of b.job)))
+    ap2_test : lesser A a b ≡ (if is_lt (key_cmp A gens G a.job b.job) then a else b)
+    unfolding test
+    ap2_test = ap (λ x. if test x b.monomial then a else b) ka.key ∙ ap (λ y. if test (key_monomial A gens G a.job) y then a else b) kb.key
+    by : (t : Bool) → is_lt (key_cmp A gens G a.job b.job) ≡ t → r ≡ (if t then a else b)
+        → (least_job A gens G (if t then a.job else b.job) jobs ≡ least_job A gens G r.job jobs) × IsKeyed A gens G r
+    by true t e = (ap (λ k. least_job A gens G k.job jobs) (sym e), subst (IsKeyed A gens G) (sym e) ka)
+    by false t e = (ap (λ k. least_job A gens G k.job jobs) (sym e), subst (IsKeyed A gens G) (sym e) kb)
+
+-- ---- the jobs of a new element
+
+-- one pair more
+pub pairs_with-next : (m i : ℕ) (old : List Job) → 1 ≤ i → old ++ pairs_with m ((i + 1) - 1) ≡ (old ++ pairs_with m (i - 1)) ++ Pair i m ∷ []
+pairs_with-next m zero old h = absurd (omega arith)
+pairs_with-next m (suc k) old h =
+    let next : (suc k + 1) - 1 ≡ suc k = omega arith in
+    let this : suc k - 1 ≡ k = omega arith in
+    rw (next, this) (sym (append_assoc old (pairs_with m k) (Pair (suc k) m ∷ [])))
+
+-- one product more
+pub rights_of-next : (m v : ℕ) (old : List Job) → 1 ≤ v → old ++ rights_of m ((v + 1) - 1) ≡ (old ++ rights_of m (v - 1)) ++ Right m v ∷ []
+rights_of-next m zero old h = absurd (omega arith)
+rights_of-next m (suc k) old h =
+    let next : (suc k + 1) - 1 ≡ suc k = omega arith in
+    let this : suc k - 1 ≡ k = omega arith in
+    rw (next, this) (sym (append_assoc old (rights_of m k) (Right m (suc k) ∷ [])))
+
+-- ---- seeds
+
+-- the seeds of two lists of generators
+pub seeds_from-append : (s : ℕ) (fs gs : List Polynomial) → seeds_from s (fs ++ gs) ≡ seeds_from s fs ++ seeds_from (s + length fs) gs
+seeds_from-append s [] gs = ap (λ i. seeds_from i gs) (omega arith)
+seeds_from-append s ([] ∷ fs) gs = seeds_from-append (suc s) fs gs ∙ ap (λ i. seeds_from (suc s) fs ++ seeds_from i gs) (omega arith)
+seeds_from-append s ((t ∷ f) ∷ fs) gs =
+    ap (λ jobs. Seed s ∷ jobs) (seeds_from-append (suc s) fs gs ∙ ap (λ i. seeds_from (suc s) fs ++ seeds_from i gs) (omega arith))

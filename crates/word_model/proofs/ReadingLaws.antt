@@ -1,13 +1,12 @@
 -- Reading a script is the inverse of its form: the bytes of a script are read as it,
 -- and bytes that are read as a script are its bytes.
-use Rattle.std.proofs.Common.{◌≡◌, ◌≢◌, ℕ, zero, suc, ◌+◌, ◌%◌, ◌≤◌, ◌==◌, nat_le, ◌&&◌, not, List, [], ◌∷◌, ◌++◌, map, length, take, drop, Bool, true, false, Option, Some, None, codes, refl, sym, ◌∙◌, ap, subst, arith, inl, inr, one-add}
+use Rattle.std.proofs.Common.{◌≡◌, ℕ, zero, suc, ◌+◌, ◌≤◌, ◌==◌, nat_le, ◌&&◌, List, [], ◌∷◌, ◌++◌, map, length, take, drop, Bool, true, false, Option, Some, None, codes, refl, sym, ◌∙◌, ap, subst, arith, inl, inr, one-add}
 use Rattle.std.specs.Prelude.{if◌then◌else◌, option_and_then}
 use Rattle.std.specs.List.{join_with_byte, list_all, prefix_len}
-use Rattle.std.proofs.lemmas.Bool.{eqb-true, eq-eqb, eqb-false, ne_eqb, and_parts, and_from, leb-true, le-leb, cases_Bool, not-true}
+use Rattle.std.proofs.lemmas.Bool.{eqb-true, eq-eqb, and_parts, and_from, leb-true, le-leb, cases_Bool}
 use Rattle.std.proofs.lemmas.List.{take-append-drop, take_at, drop_at}
 use Rattle.std.proofs.lemmas.List.Folds.{prefix_len-append, length-prefix_len}
-use Rattle.prime_field.specs.Modular.{in_table}
-use Rattle.word_model.specs.Scripts.{ShortScript, script_bytes, line_feed, is_digit, is_letter, IsNumber, digits_value, IsShortScript, after_text, read_number, with_letter, read_letters, script_at_end, read_script}
+use Rattle.word_model.specs.Scripts.{ShortScript, script_bytes, line_feed, is_digit, is_letter, IsNumber, IsShortScript, after_text, read_number, with_letter, read_letters, script_at_end, read_script}
 
 -- a conditional option that holds a value
 if_some : {X : Type 0} (b : Bool) (o : Option X) (x : X) → (if b then o else None) ≡ Some x → (b ≡ true) × (o ≡ Some x)

@@ -1,5 +1,5 @@
 -- Keys of jobs, the least job, and the jobs that a new element brings.
-use Rattle.std.proofs.Common.{◌≡◌, ◌≢◌, ℕ, zero, suc, ◌+◌, ◌-◌, ◌≤◌, Bool, true, false, List, [], ◌∷◌, ◌++◌, length, drop, get_or, if◌then◌else◌, refl, sym, ap, ◌∙◌, subst, cc, arith, append_assoc}
+use Rattle.std.proofs.Common.{◌≡◌, ◌≢◌, ℕ, zero, suc, ◌+◌, ◌-◌, ◌≤◌, Bool, true, false, List, [], ◌∷◌, ◌++◌, length, drop, get_or, if◌then◌else◌, refl, sym, ap, ◌∙◌, subst, arith, append_assoc}
 use Rattle.std.specs.Ordering.{ordering_then, is_lt}
 use Rattle.monomials.specs.Monomials.{Monomial, lcm, plus, variable}
 use Rattle.monomials.specs.Orders.{order_cmp}
@@ -69,13 +69,12 @@ lesser A a b = if is_lt (ordering_then (order_cmp A.order.rows a.monomial b.mono
 -- the least job among these is that of the lesser and the others
 pub least_job-step : (A : Algebra) (gens G : List Polynomial) (a b r : Keyed) (jobs : List Job) → IsKeyed A gens G a → IsKeyed A gens G b → r ≡ lesser A a b
     → (least_job A gens G b.job (a.job ∷ jobs) ≡ least_job A gens G r.job jobs) × IsKeyed A gens G r
-least_job-step A gens G a b r jobs ka kb e = by (is_lt (key_cmp A gens G a.job b.job)) refl (e ∙ ap2_test)
+least_job-step A gens G a b r jobs ka kb e = by (is_lt (key_cmp A gens G a.job b.job)) refl (e ∙ same)
   where
-    test : Monomial → Monomial → Bool
-    test x y = is_lt (ordering_then (order_cmp A.order.rows x y) (rank_cmp (rank_of a.job) (rank_of b.job)))
-    ap2_test : lesser A a b ≡ (if is_lt (key_cmp A gens G a.job b.job) then a else b)
-    unfolding test
-    ap2_test = ap (λ x. if test x b.monomial then a else b) ka.key ∙ ap (λ y. if test (key_monomial A gens G a.job) y then a else b) kb.key
+    lesser_at : Monomial → Monomial → Keyed
+    lesser_at x y = if is_lt (ordering_then (order_cmp A.order.rows x y) (rank_cmp (rank_of a.job) (rank_of b.job))) then a else b
+    same : lesser_at a.monomial b.monomial ≡ lesser_at (key_monomial A gens G a.job) (key_monomial A gens G b.job)
+    same = ap (λ x. lesser_at x b.monomial) ka.key ∙ ap (λ y. lesser_at (key_monomial A gens G a.job) y) kb.key
     by : (t : Bool) → is_lt (key_cmp A gens G a.job b.job) ≡ t → r ≡ (if t then a else b)
         → (least_job A gens G (if t then a.job else b.job) jobs ≡ least_job A gens G r.job jobs) × IsKeyed A gens G r
     by true t e = (ap (λ k. least_job A gens G k.job jobs) (sym e), subst (IsKeyed A gens G) (sym e) ka)

@@ -147,7 +147,7 @@ pub fn take_out(queue: &mut Vec<Job>, job: &Job)
     ensures fewer { vec_len queue.new ≤ vec_len queue.old }
     ensures capacity { vec_capacity queue.new ≡ vec_capacity queue.old }
 {
-    queue.retain(|other| ensures { result ≡ not (same_job job.entry.now other.now) } { !same_job(job, other) });
+    queue.retain(|other| !same_job(job, other));
 }
 
 // The pair of two elements, the lower number first.

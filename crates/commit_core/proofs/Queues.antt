@@ -1,26 +1,23 @@
 -- Keys of jobs, the least job, and the jobs that a new element brings.
-use Rattle.std.proofs.Common.{◌≡◌, ◌≢◌, ℕ, zero, suc, ◌+◌, ◌-◌, ◌≤◌, Bool, true, false, List, [], ◌∷◌, ◌++◌, length, drop, get_or, if◌then◌else◌, refl, sym, ap, ◌∙◌, subst, arith, append_assoc}
+use Rattle.std.proofs.Common.{◌≡◌, ◌≢◌, ℕ, zero, suc, ◌+◌, ◌-◌, ◌<◌, ◌≤◌, Option, Some, None, add-one, Bool, true, false, List, [], ◌∷◌, ◌++◌, length, take, get_or, if◌then◌else◌, refl, sym, ap, ◌∙◌, subst, arith, append_assoc}
+use Rattle.std.proofs.lemmas.List.{take_more, length-take-le}
 use Rattle.std.specs.Ordering.{ordering_then, is_lt}
 use Rattle.monomials.specs.Monomials.{Monomial, lcm, plus, variable}
-use Rattle.monomials.specs.Orders.{order_cmp}
+use Rattle.monomials.specs.Orders.{RowOrder, order_cmp}
 use Rattle.monomials.specs.Polynomials.{Polynomial, Each, IsPolynomial}
 use Rattle.monomials.specs.Leading.{leading_monomial}
 use Rattle.monomials.proofs.Exponents.{length-zip_with}
 use Rattle.monomials.proofs.Keys.{Each-weaker}
-use Rattle.gpoly.proofs.Lists.{Each-get_or}
 use Rattle.word_model.specs.Words.{Algebra}
-use Rattle.word_model.specs.Reduction.{element}
-use Rattle.word_model.specs.Jobs.{pair_lcm, key_monomial, key_cmp, rank_of, rank_cmp, least_job}
+use Rattle.word_model.specs.Reduction.{element, least_number}
+use Rattle.word_model.specs.Jobs.{pair_lcm, key_monomial, key_cmp, rank_of, rank_cmp, least_job, is_witness, chain_witness}
 use Rattle.word_model.specs.Machine.{IsElement, pairs_with, rights_of, seeds_from}
 use Rattle.word_model.specs.declared.records.Job.{Job}
 use Rattle.word_model.specs.declared.records.Job.TheVariants.{Seed, Pair, Right}
 use Rattle.word_model.proofs.Associativity.{length-variable}
+use Rattle.word_model.proofs.LeastNumbers.{Each-element}
 use Rattle.commit_core.specs.Named.{IsNamed}
 use Rattle.commit_core.specs.declared.queue.Keyed.{Keyed}
-
--- what holds of each polynomial holds of that of number i
-pub Each-element : (P : Polynomial → Type 0) (G : List Polynomial) (i : ℕ) → Each P G → 1 ≤ i → i ≤ length G → P (element G i)
-Each-element P G i h low high = Each-get_or P G (i - 1) [] (omega arith) h
 
 -- elements are polynomials
 pub elements-sorted : (A : Algebra) (G : List Polynomial) → Each (IsElement A) G → Each (IsPolynomial A.p A.order) G
@@ -63,13 +60,14 @@ pub record IsKeyed (A : Algebra) (gens G : List Polynomial) (k : Keyed) : Type 0
   pub named : IsNamed A gens G k.job
 
 -- the lesser of two jobs
-abbrev pub lesser : Algebra → Keyed → Keyed → Keyed
-lesser A a b = if is_lt (ordering_then (order_cmp A.order.rows a.monomial b.monomial) (rank_cmp (rank_of a.job) (rank_of b.job))) then a else b
+abbrev pub lesser : RowOrder → Keyed → Keyed → Keyed
+lesser o a b = if is_lt (ordering_then (order_cmp o.rows a.monomial b.monomial) (rank_cmp (rank_of a.job) (rank_of b.job))) then a else b
 
 -- the least job among these is that of the lesser and the others
-pub least_job-step : (A : Algebra) (gens G : List Polynomial) (a b r : Keyed) (jobs : List Job) → IsKeyed A gens G a → IsKeyed A gens G b → r ≡ lesser A a b
+pub least_job-step : (A : Algebra) (gens G : List Polynomial) (o : RowOrder) (a b r : Keyed) (jobs : List Job) → o ≡ A.order
+    → IsKeyed A gens G a → IsKeyed A gens G b → r ≡ lesser o a b
     → (least_job A gens G b.job (a.job ∷ jobs) ≡ least_job A gens G r.job jobs) × IsKeyed A gens G r
-least_job-step A gens G a b r jobs ka kb e = by (is_lt (key_cmp A gens G a.job b.job)) refl (e ∙ same)
+least_job-step A gens G o a b r jobs order ka kb e = by (is_lt (key_cmp A gens G a.job b.job)) refl (e ∙ ap (λ (x : RowOrder). lesser x a b) order ∙ same)
   where
     lesser_at : Monomial → Monomial → Keyed
     lesser_at x y = if is_lt (ordering_then (order_cmp A.order.rows x y) (rank_cmp (rank_of a.job) (rank_of b.job))) then a else b
@@ -77,8 +75,39 @@ least_job-step A gens G a b r jobs ka kb e = by (is_lt (key_cmp A gens G a.job b
     same = ap (λ x. lesser_at x b.monomial) ka.key ∙ ap (λ y. lesser_at (key_monomial A gens G a.job) y) kb.key
     by : (t : Bool) → is_lt (key_cmp A gens G a.job b.job) ≡ t → r ≡ (if t then a else b)
         → (least_job A gens G (if t then a.job else b.job) jobs ≡ least_job A gens G r.job jobs) × IsKeyed A gens G r
-    by true t e = (ap (λ k. least_job A gens G k.job jobs) (sym e), subst (IsKeyed A gens G) (sym e) ka)
-    by false t e = (ap (λ k. least_job A gens G k.job jobs) (sym e), subst (IsKeyed A gens G) (sym e) kb)
+    by true t e = (ap (λ (k : Keyed). least_job A gens G k.job jobs) (sym e), subst (IsKeyed A gens G) (sym e) ka)
+    by false t e = (ap (λ (k : Keyed). least_job A gens G k.job jobs) (sym e), subst (IsKeyed A gens G) (sym e) kb)
+
+-- ---- the chain witness
+
+-- a job that is no pair has none
+pub witness-no_pair : (G : List Polynomial) (queue : List Job) (job : Job) → ((i j : ℕ) → job ≡ Pair i j → ⊥) → None ≡ chain_witness G queue job
+unfolding chain_witness
+witness-no_pair G queue (Seed s) h = refl
+witness-no_pair G queue (Pair i j) h = absurd (h i j refl)
+witness-no_pair G queue (Right i v) h = refl
+
+-- that of a pair is the least
+pub witness-pair : (G : List Polynomial) (queue : List Job) (job : Job) (i j : ℕ) → job ≡ Pair i j
+    → chain_witness G queue job ≡ least_number (is_witness G queue i j) 1 (length G)
+unfolding chain_witness
+witness-pair G queue job i j e = rw e refl
+
+module _ (test : ℕ → Bool) (n k : ℕ) where
+  -- of the numbers from k to n, k is the least that passes the test
+  pub least-here : k ≤ n → test k ≡ true → least_number test k ((n + 1) - k) ≡ Some k
+  least-here low t = let room : (n + 1) - k ≡ suc (n - k) = omega arith in rw (room, t) refl
+
+  -- or a later one is
+  pub least-later : k ≤ n → test k ≡ false → least_number test k ((n + 1) - k) ≡ least_number test (k + 1) ((n + 1) - (k + 1))
+  least-later low t =
+      let room : (n + 1) - k ≡ suc (n - k) = omega arith in
+      let less : (n + 1) - (k + 1) ≡ n - k = omega arith in
+      rw (room, t, less, add-one) refl
+
+  -- or there are none
+  pub least-none : n < k → least_number test k ((n + 1) - k) ≡ None
+  least-none above = let room : (n + 1) - k ≡ 0 = omega arith in rw room refl
 
 -- ---- the jobs of a new element
 
@@ -106,3 +135,11 @@ seeds_from-append s [] gs = ap (λ i. seeds_from i gs) (omega arith)
 seeds_from-append s ([] ∷ fs) gs = seeds_from-append (suc s) fs gs ∙ ap (λ i. seeds_from (suc s) fs ++ seeds_from i gs) (omega arith)
 seeds_from-append s ((t ∷ f) ∷ fs) gs =
     ap (λ jobs. Seed s ∷ jobs) (seeds_from-append (suc s) fs gs ∙ ap (λ i. seeds_from (suc s) fs ++ seeds_from i gs) (omega arith))
+
+-- one generator more
+pub seeds_from-more : (gens : List Polynomial) (i : ℕ) (f : Polynomial) → i < length gens → f ≡ get_or gens i f
+    → seeds_from 1 (take (i + 1) gens) ≡ seeds_from 1 (take i gens) ++ seeds_from (i + 1) (f ∷ [])
+seeds_from-more gens i f low is =
+    let more : take (i + 1) gens ≡ take i gens ++ f ∷ [] = take_more gens i f low ∙ ap (λ g. take i gens ++ g ∷ []) (sym is) in
+    let count : 1 + length (take i gens) ≡ i + 1 = omega (arith, length-take-le i gens (omega arith)) in
+    ap (seeds_from 1) more ∙ seeds_from-append 1 (take i gens) (f ∷ []) ∙ ap (λ s. seeds_from 1 (take i gens) ++ seeds_from s (f ∷ [])) count

@@ -110,8 +110,8 @@ step-adds A gens mode budget s s' e = by_queue s.queue refl e
           | t ∷ f ↦ if nat_le most_elements (length s.basis) then Over BasisFull else On (with_element A mode s job r)
         ])
         by true rest t' e = absurd cc
-        by false [] = entered job (Zero job r.trace)
-        by false (t ∷ f) = full (nat_le most_elements (length s.basis))
+        by false [] t' e = entered job (Zero job r.trace) t' e
+        by false (t ∷ f) t' e = full (nat_le most_elements (length s.basis)) t' e
           where
             full : (b : Bool) → Adds (if b then Over BasisFull else On (with_element A mode s job r))
             full true t' e = absurd cc
@@ -120,7 +120,7 @@ step-adds A gens mode budget s s' e = by_queue s.queue refl e
                 ap (λ t. length t.entries) (sym same) ∙ length-append s.entries (New job r.trace (inverse A.p (leading_coefficient r.rest)) ∷ []) ∙ omega arith
     of_start : (job : Job) (start : Option Polynomial) → Adds (turn_of_start A mode s job start)
     of_start job None t' e = absurd cc
-    of_start job (Some h) = of_rest job (reduce A s.basis h)
+    of_start job (Some h) t' e = of_rest job (reduce A s.basis h) t' e
     of_job : (job : Job) (witness : Option ℕ) → Adds (turn_of_job A gens mode s job witness)
     of_job job (Some k) = entered job (Skipped job k)
     of_job job None = of_start job (start_of A gens s.basis job)
@@ -153,3 +153,8 @@ pub run-ends : (A : Algebra) (gens : List Polynomial) (mode : Mode) (budget k : 
     → run_within A gens mode budget (suc k) s ≡ ends_with s outcome
 unfolding run_within
 run-ends A gens mode budget k s outcome e = ap (after_turn (run_within A gens mode budget k) s) e
+
+-- a list without elements
+pub is_empty : {X : Type 0} → (xs : List X) → length xs ≡ 0 → xs ≡ []
+is_empty [] e = refl
+is_empty (x ∷ xs) e = absurd (omega arith)

@@ -234,6 +234,7 @@ fn push_pairs(jobs: &mut Vec<Job>, m: u32) -> Result<(), AllocError>
 
 // Adds the products of the element of number `m` with the `n` variables.
 fn push_rights(jobs: &mut Vec<Job>, m: u32, n: u8) -> Result<(), AllocError>
+    requires { 1 ≤ n }
     ensures { OnOk result (jobs.new.items ≡ jobs.old.items ++ rights_of m n) }
 {
     for v in 1..=n {
@@ -244,7 +245,8 @@ fn push_rights(jobs: &mut Vec<Job>, m: u32, n: u8) -> Result<(), AllocError>
 
 // The jobs that the element of number `m` brings.
 pub fn jobs_of(alloc: Global, mode: Mode, n: u8, m: u32) -> Result<Vec<Job>, AllocError>
-    requires { 1 ≤ m }
+    requires number { 1 ≤ m }
+    requires variables { 1 ≤ n }
     ensures { IfOk result (λ jobs. jobs.items ≡ jobs_of mode n m) }
 {
     let mut jobs = Vec::new(alloc);

@@ -8,12 +8,9 @@ loop-v-preserved c =
     let pushed = c.in_ok-push.ensures.items in
     cc (next, pushed)
 
-pub returns : goal.returns
-returns c = let none : c.loop-v.v - 1 ≡ c.args.n = omega arith in rw (← none) c.loop-v.invariant
-
 pub returns-in_ok-push : goal.returns-in_ok-push
 returns-in_ok-push c =
     let next = rights_of-next c.args.m c.loop-v.v c.args.jobs.now.items c.loop-v.auto.v in
     let pushed = c.in_ok-push.ensures.items in
     let last : (c.loop-v.v + 1) - 1 ≡ c.args.n = omega arith in
-    cc (next, pushed)
+    cc (next, pushed, last)

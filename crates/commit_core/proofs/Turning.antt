@@ -1,9 +1,10 @@
 -- The rules of a step, in order, and the run after it.
-use Rattle.std.proofs.Common.{◌≡◌, ◌≢◌, ℕ, zero, suc, ◌+◌, ◌-◌, ◌<◌, ◌≤◌, nat_le, Bool, true, false, List, [], ◌∷◌, ◌++◌, length, Option, Some, None, Ok, Err, IfOk, IfErr, if◌then◌else◌, refl, sym, ap, ◌∙◌, subst, arith, length-append}
+use Rattle.std.proofs.Common.{◌≡◌, ◌≢◌, ℕ, zero, suc, ◌+◌, ◌-◌, ◌*◌, ◌%◌, ◌<◌, ◌≤◌, nat_le, Bool, true, false, List, [], ◌∷◌, ◌++◌, length, Option, Some, None, Ok, Err, IfOk, IfErr, if◌then◌else◌, refl, sym, ap, ◌∙◌, subst, arith, length-append}
 use Rattle.std.proofs.lemmas.Bool.Decides.{nat_tests}
 use Rattle.std.specs.declared.alloc.AllocError.{AllocError}
 use Rattle.std.specs.declared.result.Result.{Result}
-use Rattle.prime_field.specs.Modular.{inverse}
+use Rattle.prime_field.specs.Modular.{IsPrime, inverse}
+use Rattle.prime_field.proofs.Inverses.{inverse_is}
 use Rattle.monomials.specs.Polynomials.{Polynomial, poly_scale}
 use Rattle.monomials.specs.Leading.{leading_coefficient}
 use Rattle.word_model.specs.Words.{Algebra}
@@ -158,3 +159,9 @@ run-ends A gens mode budget k s outcome e = ap (after_turn (run_within A gens mo
 pub is_empty : {X : Type 0} → (xs : List X) → length xs ≡ 0 → xs ≡ []
 is_empty [] e = refl
 is_empty (x ∷ xs) e = absurd (omega arith)
+
+-- a number below p that times another is 1 is the inverse
+pub scale-is : (p q a b k : ℕ) → IsPrime p → q ≡ p → a ≡ b → (k * a) % q ≡ 1 → k < q → k ≡ inverse p b
+scale-is p q a b k prime field same one below =
+    let turned : b * k ≡ k * a = rw same (omega arith) in
+    inverse_is p b k prime (ap (λ x. x % p) turned ∙ ap (λ x. (k * a) % x) (sym field) ∙ one) (omega arith)

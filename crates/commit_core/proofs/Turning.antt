@@ -10,7 +10,7 @@ use Rattle.monomials.specs.Leading.{leading_coefficient}
 use Rattle.word_model.specs.Words.{Algebra}
 use Rattle.word_model.specs.Reduction.{Reduced, reduce}
 use Rattle.word_model.specs.Jobs.{least_job, chain_witness, start_of, without}
-use Rattle.word_model.specs.Machine.{State, Turn, On, Over, Journal, step, turn_of_job, turn_of_start, turn_of_rest, with_entry, with_element, jobs_of, ends_with, run_within, after_turn, most_elements}
+use Rattle.word_model.specs.Machine.{State, Turn, On, Over, Journal, step, turn_of_job, turn_of_start, turn_of_rest, with_entry, with_element, jobs_of, ends_with, first_state, machine, run_within, after_turn, most_elements}
 use Rattle.word_model.specs.declared.records.Job.{Job}
 use Rattle.word_model.specs.declared.records.Mode.{Mode}
 use Rattle.word_model.specs.declared.records.Entry.{Entry}
@@ -165,3 +165,11 @@ pub scale-is : (p q a b k : ℕ) → IsPrime p → q ≡ p → a ≡ b → (k * 
 scale-is p q a b k prime field same one below =
     let turned : b * k ≡ k * a = rw same (omega arith) in
     inverse_is p b k prime (ap (λ x. x % p) turned ∙ ap (λ x. (k * a) % x) (sym field) ∙ one) (omega arith)
+
+-- the run from the first state on
+pub run-first : (A : Algebra) (gens : List Polynomial) (mode : Mode) (budget : ℕ) (s : State) → s ≡ first_state gens
+    → machine A gens mode budget ≡ run_within A gens mode budget (suc (budget - length s.entries)) s
+unfolding machine
+run-first A gens mode budget s e =
+    subst (λ (t : State). run_within A gens mode budget (suc budget) (first_state gens) ≡ run_within A gens mode budget (suc (budget - length t.entries)) t) (sym e)
+    (ap (λ k. run_within A gens mode budget (suc k) (first_state gens)) (omega arith))

@@ -2,7 +2,7 @@
 
 ghost use Rattle.std.specs.Prelude.{◌≡◌, ◌≢◌, ◌++◌, ◌+◌, ◌<◌, ◌≤◌, IfOk, IfErr, OnOk, OnErr, List, [], ◌∷◌, length, Some, None};
 ghost use Rattle.monomials.specs.Polynomials.{Polynomial, Each, IsPolynomial};
-ghost use Rattle.word_model.specs.Jobs.{start_of, chain_witness};
+ghost use Rattle.word_model.specs.Jobs.{start_of, chain_witness, without};
 ghost use Rattle.word_model.specs.Machine.{IsElement, IsState, seeds_from, first_state, with_entry, with_element, turn_of_rest, turn_of_start, ends_with, step, On, Over};
 ghost use Rattle.commit_core.specs.Named.{IsNamed};
 ghost use Rattle.commit_core.specs.Turns.{IsTurn};
@@ -153,8 +153,7 @@ impl State {
         self.enter_element(alloc, alg, mode, job, reduced)
     }
 
-    // The job leaves the queue with a new element, whose jobs are queued. All memory is taken
-    // before the first change.
+    // The job leaves the queue with a new element, which brings new jobs.
     fn enter_element(
         &mut self,
         alloc: Global,
@@ -172,12 +171,30 @@ impl State {
         let (element, scale) = rest.monic(alloc, alg.field())?;
         let number = self.basis.len() as u32 + 1;
         let brought = queue::jobs_of(alloc, mode, alg.n() as u8, number)?;
+        self.append(job, Entry::New { job, trace, scale }, element, &brought)
+    }
+
+    // The job leaves the queue, and the entry, the element and the new jobs come in. All memory is
+    // taken before the first change.
+    fn append(
+        &mut self,
+        job: Job,
+        entry: Entry,
+        element: GPoly,
+        brought: &[Job],
+    ) -> Result<Option<Outcome>, AllocError>
+        ensures { IsTurn (On (record {
+            entries = self.old.entries ++ entry ∷ [];
+            basis = self.old.basis ++ element ∷ [];
+            queue = without job self.old.queue ++ brought.now
+        })) self.old self.new result }
+    {
         self.queue.reserve(brought.len())?;
         self.entries.reserve(1)?;
         self.basis.push(element)?;
-        self.entries.push(Entry::New { job, trace, scale }).unwrap();
+        self.entries.push(entry).unwrap();
         queue::take_out(&mut self.queue, &job);
-        self.queue.extend_from_slice(&brought).unwrap();
+        self.queue.extend_from_slice(brought).unwrap();
         Ok(None)
     }
 

@@ -71,8 +71,10 @@ least_job-step A gens G o a b r jobs order ka kb e = by (is_lt (key_cmp A gens G
   where
     lesser_at : Monomial → Monomial → Keyed
     lesser_at x y = if is_lt (ordering_then (order_cmp A.order.rows x y) (rank_cmp (rank_of a.job) (rank_of b.job))) then a else b
+
     same : lesser_at a.monomial b.monomial ≡ lesser_at (key_monomial A gens G a.job) (key_monomial A gens G b.job)
     same = ap (λ x. lesser_at x b.monomial) ka.key ∙ ap (λ y. lesser_at (key_monomial A gens G a.job) y) kb.key
+
     by : (t : Bool) → is_lt (key_cmp A gens G a.job b.job) ≡ t → r ≡ (if t then a else b)
         → (least_job A gens G (if t then a.job else b.job) jobs ≡ least_job A gens G r.job jobs) × IsKeyed A gens G r
     by true t e = (ap (λ (k : Keyed). least_job A gens G k.job jobs) (sym e), subst (IsKeyed A gens G) (sym e) ka)

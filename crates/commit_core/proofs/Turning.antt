@@ -101,8 +101,10 @@ step-adds A gens mode budget s s' e = by_queue s.queue refl e
   where
     Adds : Turn → Type 0
     Adds turn = (t' : State) → turn ≡ On t' → length t'.entries ≡ suc (length s.entries)
+
     entered : (job : Job) (entry : Entry) → Adds (On (with_entry s job entry))
     entered job entry t' e = let same : with_entry s job entry ≡ t' = cc in ap (λ t. length t.entries) (sym same) ∙ length-append s.entries (entry ∷ []) ∙ omega arith
+
     of_rest : (job : Job) (r : Reduced) → Adds (turn_of_rest A mode s job r)
     of_rest job r = by r.over r.rest
       where
@@ -119,24 +121,28 @@ step-adds A gens mode budget s s' e = by_queue s.queue refl e
             full false t' e =
                 let same : with_element A mode s job r ≡ t' = cc in
                 ap (λ t. length t.entries) (sym same) ∙ length-append s.entries (New job r.trace (inverse A.p (leading_coefficient r.rest)) ∷ []) ∙ omega arith
+
     of_start : (job : Job) (start : Option Polynomial) → Adds (turn_of_start A mode s job start)
     of_start job None t' e = absurd cc
     of_start job (Some h) t' e = of_rest job (reduce A s.basis h) t' e
+
     of_job : (job : Job) (witness : Option ℕ) → Adds (turn_of_job A gens mode s job witness)
     of_job job (Some k) = entered job (Skipped job k)
     of_job job None = of_start job (start_of A gens s.basis job)
+
     by_budget : (first : Job) (queue : List Job) (spent : Bool) → nat_le budget (length s.entries) ≡ spent
         → (if spent then Over BudgetSpent else (let job : Job = least_job A gens s.basis first queue in turn_of_job A gens mode s job (chain_witness s.basis s.queue job))) ≡ On s'
         → (length s.entries < budget) × (length s'.entries ≡ suc (length s.entries))
     by_budget first queue true t e = absurd cc
     by_budget first queue false t e =
         (grind (arith, nat_tests), of_job (least_job A gens s.basis first queue) (chain_witness s.basis s.queue (least_job A gens s.basis first queue)) s' e)
+
     by_queue : (queue : List Job) → s.queue ≡ queue → (elim queue [
-        | [] ↦ Over Finished
-        | first ∷ queue ↦
-            if nat_le budget (length s.entries) then Over BudgetSpent
-            else (let job : Job = least_job A gens s.basis first queue in turn_of_job A gens mode s job (chain_witness s.basis s.queue job))
-      ]) ≡ On s' → (length s.entries < budget) × (length s'.entries ≡ suc (length s.entries))
+      | [] ↦ Over Finished
+      | first ∷ queue ↦
+          if nat_le budget (length s.entries) then Over BudgetSpent
+          else (let job : Job = least_job A gens s.basis first queue in turn_of_job A gens mode s job (chain_witness s.basis s.queue job))
+    ]) ≡ On s' → (length s.entries < budget) × (length s'.entries ≡ suc (length s.entries))
     by_queue [] q e = absurd cc
     by_queue (first ∷ queue) q e = by_budget first queue (nat_le budget (length s.entries)) refl e
 

@@ -94,13 +94,7 @@ fn lesser(order: &Order, a: Keyed, b: Keyed) -> Keyed
 }
 
 // The job of the least key among `first` and the rest.
-pub fn least_job(
-    alg: &Algebra,
-    gens: &[GPoly],
-    basis: &[GPoly],
-    first: Job,
-    rest: &[Job],
-) -> Job
+pub fn least_job(alg: &Algebra, gens: &[GPoly], basis: &[GPoly], first: Job, rest: &[Job]) -> Job
     requires generators { Each (IsPolynomial alg.now.p alg.now.order) gens.now }
     requires elements { Each (IsElement alg.now) basis.now }
     requires first_named { IsNamed alg.now gens.now basis.now first }

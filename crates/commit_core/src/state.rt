@@ -184,9 +184,9 @@ impl State {
         brought: &[Job],
     ) -> Result<Option<Outcome>, AllocError>
         ensures { IsTurn (On (record {
-            entries = self.old.entries ++ entry ∷ [];
-            basis = self.old.basis ++ element ∷ [];
-            queue = without job self.old.queue ++ brought.now
+          entries = self.old.entries ++ entry ∷ [];
+          basis = self.old.basis ++ element ∷ [];
+          queue = without job self.old.queue ++ brought.now;
         })) self.old self.new result }
     {
         self.queue.reserve(brought.len())?;

@@ -21,8 +21,8 @@ loop-job-preserved c =
     } in
     let rest : drop i c.args.rest.now ≡ job ∷ drop (i + 1) c.args.rest.now = rw add-one (drop-cons c.args.rest.now i (Seed 0) c.loop-job-test.true) in
     let step =
-        least_job-step A gens G c.order.result.now other c.loop-job.least c.lesser-least.result (drop (i + 1) c.args.rest.now) c.order.ensures keyed
-        c.loop-job.invariant.keyed c.lesser-least.ensures
+    least_job-step A gens G c.order.result.now other c.loop-job.least c.lesser-least.result (drop (i + 1) c.args.rest.now) c.order.ensures keyed
+    c.loop-job.invariant.keyed c.lesser-least.ensures
     in
     record {
       least = sym step.0 ∙ ap (least_job A gens G c.loop-job.least.job) (sym rest) ∙ c.loop-job.invariant.least;

@@ -26,20 +26,20 @@ returns c =
     let trace : c.reduced.inside.trace ≡ r.trace = ap (λ (r : Reduced). r.trace) c.reduced.view_is in
     let rest : c.reduced.inside.rest ≡ r.rest = ap (λ (r : Reduced). r.rest) c.reduced.view_is in
     let is : scale ≡ inverse A.p (leading_coefficient r.rest) =
-        scale-is A.p c.field.result (leading_coefficient c.reduced.inside.rest) (leading_coefficient r.rest) scale c.n.ensures.prime c.field.ensures
-        (ap leading_coefficient rest) c.in_ok-element.ensures.scale c.in_ok-element.ensures.in_range
+    scale-is A.p c.field.result (leading_coefficient c.reduced.inside.rest) (leading_coefficient r.rest) scale c.n.ensures.prime c.field.ensures
+    (ap leading_coefficient rest) c.in_ok-element.ensures.scale c.in_ok-element.ensures.in_range
     in
     let count : c.len.result + 1 ≡ suc (length s.basis) =
-        omega (arith, c.len.ensures, c.self.inside.basis.ok.0, ap (λ (s : State). length s.basis) c.self.view_is)
+    omega (arith, c.len.ensures, c.self.inside.basis.ok.0, ap (λ (s : State). length s.basis) c.self.view_is)
     in
     let entries : s.entries ++ New c.args.job c.reduced.inside.trace scale ∷ [] ≡ s.entries ++ New c.args.job r.trace scale ∷ [] =
-        ap (λ t. s.entries ++ New c.args.job t scale ∷ []) trace
+    ap (λ t. s.entries ++ New c.args.job t scale ∷ []) trace
     in
     let basis : s.basis ++ element ∷ [] ≡ s.basis ++ poly_scale A.p scale r.rest ∷ [] =
-        ap (λ g. s.basis ++ g ∷ []) (c.in_ok-element.ensures.value ∙ ap (λ p. poly_scale p scale c.reduced.inside.rest) c.field.ensures ∙ ap (poly_scale A.p scale) rest)
+    ap (λ g. s.basis ++ g ∷ []) (c.in_ok-element.ensures.value ∙ ap (λ p. poly_scale p scale c.reduced.inside.rest) c.field.ensures ∙ ap (poly_scale A.p scale) rest)
     in
     let brought : c.deref.result.now ≡ jobs_of c.args.mode A.order.vars (suc (length s.basis)) =
-        c.deref.ensures.value ∙ c.in_ok-brought.ensures ∙ ap (λ n. jobs_of c.args.mode n (c.len.result + 1)) c.n.ensures.value ∙ ap (jobs_of c.args.mode A.order.vars) count
+    c.deref.ensures.value ∙ c.in_ok-brought.ensures ∙ ap (λ n. jobs_of c.args.mode n (c.len.result + 1)) c.n.ensures.value ∙ ap (jobs_of c.args.mode A.order.vars) count
     in
     let queue = ap (λ jobs. without c.args.job s.queue ++ jobs) brought in
     subst (λ (t : State). IsTurn (On t) s c.append.new.self c.append.result)

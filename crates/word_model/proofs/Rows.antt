@@ -45,6 +45,12 @@ weyl_unit : answer_of [] (codes "ring r = 7,(x,d),dp;" ++ (line_feed ++ (codes "
 unfolding answer_of short_answer request_answer read_script machine run_within step chain_witness start_of reduce steps_within finished kept reduce_tail product normal_form normal_form_within inverse digits
 weyl_unit = refl
 
+-- a quantum plane with d x = 3 x d: the generators as monic elements, ascending
+quantum_basis : answer_of [] (codes "ring r = 7,(x,d),dp;" ++ (line_feed ++ (codes "def W = nc_algebra(3,0); setring W;" ++ (line_feed ++ (codes "std(d*x,d*d);" ++ line_feed)))))
+    ≡ record { text = line (codes "_[1]=d^2") ++ line (codes "_[2]=x*d"); status = 0 }
+unfolding answer_of short_answer request_answer read_script machine run_within step chain_witness start_of reduce steps_within finished kept reduce_tail product normal_form normal_form_within inverse digits
+quantum_basis = refl
+
 -- 4 is not in the table
 no_characteristic : answer_of [] (codes "ring r = 4,(x,d),dp;" ++ (line_feed ++ (codes "def W = nc_algebra(1,1); setring W;" ++ (line_feed ++ (codes "d*x;" ++ line_feed)))))
     ≡ record { text = line (codes "? line 1: Characteristic 4"); status = 1 }
@@ -56,6 +62,24 @@ zero_factor : answer_of [] (codes "ring r = 7,(x,d),dp;" ++ (line_feed ++ (codes
     ≡ record { text = line (codes "? line 2: Coefficient 1 2"); status = 3 }
 unfolding answer_of short_answer read_script digits
 zero_factor = refl
+
+-- nor is there a basis modulo 4
+no_characteristic_of_basis : answer_of [] (codes "ring r = 4,(x,d),dp;" ++ (line_feed ++ (codes "def W = nc_algebra(1,1); setring W;" ++ (line_feed ++ (codes "std(x*d,d*d);" ++ line_feed)))))
+    ≡ record { text = line (codes "? line 1: Characteristic 4"); status = 1 }
+unfolding answer_of short_answer read_script digits
+no_characteristic_of_basis = refl
+
+-- or with a zero number
+zero_factor_of_basis : answer_of [] (codes "ring r = 7,(x,d),dp;" ++ (line_feed ++ (codes "def W = nc_algebra(14,1); setring W;" ++ (line_feed ++ (codes "std(x*d,d*d);" ++ line_feed)))))
+    ≡ record { text = line (codes "? line 2: Coefficient 1 2"); status = 3 }
+unfolding answer_of short_answer read_script digits
+zero_factor_of_basis = refl
+
+-- a basis of nothing is no script
+no_form_of_basis : answer_of [] (codes "ring r = 7,(x,d),dp;" ++ (line_feed ++ (codes "def W = nc_algebra(1,1); setring W;" ++ (line_feed ++ (codes "std();" ++ line_feed)))))
+    ≡ record { text = line (codes "? Form"); status = 1 }
+unfolding answer_of read_script
+no_form_of_basis = refl
 
 -- no script
 no_form : answer_of [] [] ≡ record { text = line (codes "? Form"); status = 1 }

@@ -1,9 +1,8 @@
 -- The scripts that the program reads so far: three lines that make an algebra in x and d with one relation, and print
 -- a product of letters, or the left Gröbner basis of some products.
-use Rattle.std.specs.Prelude.{◌≡◌, ◌≢◌, ℕ, zero, suc, ◌+◌, ◌-◌, ◌*◌, ◌%◌, ◌≤◌, ◌==◌, ◌&&◌, nat_le, not, List, [], ◌∷◌, ◌++◌, map, length, take, drop, Bool, true, Option, Some, None, codes, if◌then◌else◌, fold, option_and_then}
+use Rattle.std.specs.Prelude.{◌≡◌, ℕ, zero, suc, ◌+◌, ◌-◌, ◌*◌, ◌%◌, ◌≤◌, ◌==◌, ◌&&◌, nat_le, List, [], ◌∷◌, ◌++◌, map, length, take, drop, Bool, true, Option, Some, None, codes, if◌then◌else◌, fold, option_and_then}
 use Rattle.std.specs.Option.{option_map}
 use Rattle.std.specs.List.{join_with_byte, list_all, prefix_len}
-use Rattle.prime_field.specs.Modular.{in_table}
 use Rattle.monomials.specs.Polynomials.{cons_nonzero, Each}
 use Rattle.monomials.specs.Blocks.{dp_rows}
 use Rattle.word_model.specs.Words.{Algebra, Word}

@@ -21,4 +21,11 @@ pub mod Associativity
 pub mod TermProducts
 mod Rows
 pub mod ReadingLaws
+pub mod LeastNumbers
+pub mod Divisions
+pub mod Targets
+pub mod Multiples
+mod MoreRanks
+pub mod Reductions
+pub mod Steps
 mod Runs

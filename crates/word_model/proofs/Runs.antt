@@ -9,12 +9,12 @@ use Rattle.word_model.specs.Scripts.{two_variables}
 use Rattle.word_model.specs.Reduction.{steps_within, reduce, reduce_tail}
 use Rattle.word_model.specs.Jobs.{start_of, chain_witness}
 use Rattle.word_model.specs.Finished.{finished, kept}
-use Rattle.word_model.specs.Machine.{Journal, step, run_within, machine}
+use Rattle.word_model.specs.Machine.{step, run_within, machine}
 use Rattle.word_model.specs.declared.records.Job.TheVariants.{Seed, Pair, Right}
 use Rattle.word_model.specs.declared.records.TraceStep.{TraceStep}
 use Rattle.word_model.specs.declared.records.Mode.TheVariants.{Left, TwoSided}
 use Rattle.word_model.specs.declared.records.Entry.TheVariants.{Skipped, Zero, New}
-use Rattle.word_model.specs.declared.records.Outcome.TheVariants.{Finished, BudgetSpent, BasisFull, DegreeOver}
+use Rattle.word_model.specs.declared.records.Outcome.TheVariants.{Finished, BudgetSpent}
 
 -- x d and d^2 where d x = x d + 1
 abbrev weyl_generators : List Polynomial

@@ -8,7 +8,7 @@ use Rattle.monomials.proofs.Weights.{weigh, weigh-append, weigh-sum, weigh-scale
 use Rattle.monomials.proofs.OrderLaws.{order_cmp_tied}
 use Rattle.monomials.proofs.Keys.{Each-append, Each-weaker, HasVars-poly_scale}
 use Rattle.monomials.proofs.Operations.{IsPolynomial-poly_add, IsPolynomial-poly_scale}
-use Rattle.word_model.specs.Words.{Algebra, Word, IsWord, sorted_word, normal_form, IsPaired}
+use Rattle.word_model.specs.Words.{Algebra, Word, IsWord, sorted_word, IsPaired}
 use Rattle.word_model.specs.Products.{product, variable_polynomial, times_letters, with_letter}
 use Rattle.word_model.specs.Conditions.{IsConfluent}
 use Rattle.word_model.proofs.Letters.{IsWord-sorted_word, monomial_of-sorted_word, sorted_word-variable, length-word_from}

@@ -1,5 +1,5 @@
 -- The finished list of a basis: what is left of it when no element is needed less, and all tails are reduced.
-use Rattle.std.specs.Prelude.{ℕ, suc, Bool, true, false, ◌&&◌, ◌||◌, not, ◌==◌, nat_lt, List, [], ◌∷◌, length, map, Option, Some, None, is_none, if◌then◌else◌}
+use Rattle.std.specs.Prelude.{ℕ, suc, Bool, ◌&&◌, ◌||◌, not, ◌==◌, nat_lt, List, [], ◌∷◌, length, map, Option, Some, None, is_none, if◌then◌else◌}
 use Rattle.std.specs.Ordering.{is_lt}
 use Rattle.monomials.specs.Monomials.{divides}
 use Rattle.monomials.specs.Orders.{order_cmp}

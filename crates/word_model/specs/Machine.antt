@@ -71,8 +71,8 @@ with_element A mode s job r =
 abbrev pub turn_of_rest : Algebra → Mode → State → Job → Reduced → Turn
 turn_of_rest A mode s job r =
     if r.over then Over DegreeOver else elim r.rest [
-    | [] ↦ On (with_entry s job (Zero job r.trace))
-    | t ∷ f ↦ if nat_le most_elements (length s.basis) then Over BasisFull else On (with_element A mode s job r)
+      | [] ↦ On (with_entry s job (Zero job r.trace))
+      | t ∷ f ↦ if nat_le most_elements (length s.basis) then Over BasisFull else On (with_element A mode s job r)
     ]
 
 -- the turn of a job with this start

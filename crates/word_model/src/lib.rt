@@ -4,3 +4,4 @@
 pub mod laws;
 pub mod reading;
 pub mod records;
+pub mod reducing;

@@ -1,6 +1,7 @@
 pub mod Digits
 pub mod Texts
 pub mod Letters
+pub mod ProductLists
 pub mod Values
 pub mod Monomials
 pub mod Scripted

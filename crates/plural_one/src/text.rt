@@ -34,6 +34,7 @@ pub fn ideal_text(
             1,
             &GPoly::zero(alloc),
         )?;
+        return Ok(text);
     }
     for (index, f) in generators.iter().enumerate() {
         write_generator(alloc, &mut text, field, names, label, index + 1, f)?;

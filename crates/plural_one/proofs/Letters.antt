@@ -9,15 +9,15 @@ use Rattle.word_model.specs.Words.{Word}
 use Rattle.word_model.specs.Scripts.{is_letter, letter_number, after_text, read_letters, with_letter}
 use Rattle.plural_one.specs.Readings.{read_letter, read_word}
 
--- these letters in front of what is read
-abbrev pub word_in_front : Word → Option (Word × List ℕ) → Option (Word × List ℕ)
-word_in_front front read = option_map (λ (word, rest). (front ++ word, rest)) read
+-- these in front of what is read
+abbrev pub in_front : {X : Type 0} → List X → Option (List X × List ℕ) → Option (List X × List ℕ)
+in_front front read = option_map (λ (xs, rest). (front ++ xs, rest)) read
 
--- a letter and then a word in front
-pub word_in_front_more : (front : Word) (n : ℕ) (read : Option (Word × List ℕ))
-    → word_in_front front (word_in_front (n ∷ []) read) ≡ word_in_front (front ++ n ∷ []) read
-word_in_front_more front n None = refl
-word_in_front_more front n (Some r) = ap (λ (w : Word). Some (w, r.1)) (sym (append_assoc front (n ∷ []) r.0))
+-- one more in front
+pub in_front_more : {X : Type 0} (front : List X) (x : X) (read : Option (List X × List ℕ))
+    → in_front front (in_front (x ∷ []) read) ≡ in_front (front ++ x ∷ []) read
+in_front_more front x None = refl
+in_front_more {X} front x (Some r) = ap (λ (xs : List X). Some (xs, r.1)) (sym (append_assoc front (x ∷ []) r.0))
 
 -- the front byte is a letter, with its number
 record IsLetter (b n : ℕ) (bytes rest : List ℕ) : Type 0 where
@@ -70,13 +70,13 @@ read_word_last k n (b ∷ (next ∷ bytes)) rest e star =
 -- a letter of the number n in front of what is read
 with_letter_number : (b n : ℕ) (read : Option (List ℕ × List ℕ)) → letter_number b ≡ n
     → option_map (λ (letters, rest). (map letter_number letters, rest)) (with_letter b read)
-    ≡ word_in_front (n ∷ []) (option_map (λ (letters, rest). (map letter_number letters, rest)) read)
+    ≡ in_front (n ∷ []) (option_map (λ (letters, rest). (map letter_number letters, rest)) read)
 with_letter_number b n None e = refl
 with_letter_number b n (Some r) e = rw e refl
 
 -- a letter with `*` behind it
 pub read_word_more : (k n : ℕ) (bytes rest rest' : List ℕ) → read_letter bytes ≡ Some (n, rest) → after_text (codes "*") rest ≡ Some rest'
-    → read_word (suc k) bytes ≡ word_in_front (n ∷ []) (read_word k rest')
+    → read_word (suc k) bytes ≡ in_front (n ∷ []) (read_word k rest')
 read_word_more k n [] rest rest' e star = cc
 read_word_more k n (b ∷ []) rest rest' e star =
     let l = letter_read b n [] rest e in
@@ -88,18 +88,18 @@ read_word_more k n (b ∷ (next ∷ bytes)) rest rest' e star =
 
 -- the next round, where fewer than m letters stand in front
 pub word_goes_on : (m : ℕ) (front : Word) (n : ℕ) (bytes rest rest' : List ℕ) (whole : Option (Word × List ℕ)) → length front < m
-    → word_in_front front (read_word (m - length front) bytes) ≡ whole
+    → in_front front (read_word (m - length front) bytes) ≡ whole
     → read_letter bytes ≡ Some (n, rest) → after_text (codes "*") rest ≡ Some rest'
-    → word_in_front (front ++ n ∷ []) (read_word (m - length (front ++ n ∷ [])) rest') ≡ whole
+    → in_front (front ++ n ∷ []) (read_word (m - length (front ++ n ∷ [])) rest') ≡ whole
 word_goes_on m front n bytes rest rest' whole room so_far letter star =
     let k : m - length front ≡ suc (m - length (front ++ n ∷ [])) = omega (arith, length_push front n) in
-    sym (word_in_front_more front n (read_word (m - length (front ++ n ∷ [])) rest'))
-    ∙ (ap (word_in_front front) (sym (read_word_more (m - length (front ++ n ∷ [])) n bytes rest rest' letter star) ∙ ap (λ j. read_word j bytes) (sym k)) ∙ so_far)
+    sym (in_front_more front n (read_word (m - length (front ++ n ∷ [])) rest'))
+    ∙ (ap (in_front front) (sym (read_word_more (m - length (front ++ n ∷ [])) n bytes rest rest' letter star) ∙ ap (λ j. read_word j bytes) (sym k)) ∙ so_far)
 
 -- the last round
 pub word_ends : (m : ℕ) (front : Word) (n : ℕ) (bytes rest : List ℕ) (whole : Option (Word × List ℕ)) → length front < m
-    → word_in_front front (read_word (m - length front) bytes) ≡ whole
+    → in_front front (read_word (m - length front) bytes) ≡ whole
     → read_letter bytes ≡ Some (n, rest) → after_text (codes "*") rest ≡ None → whole ≡ Some (front ++ n ∷ [], rest)
 word_ends m front n bytes rest whole room so_far letter star =
     let k : m - length front ≡ suc (m - length front - 1) = omega arith in
-    sym so_far ∙ ap (word_in_front front) (ap (λ j. read_word j bytes) k ∙ read_word_last (m - length front - 1) n bytes rest letter star)
+    sym so_far ∙ ap (in_front front) (ap (λ j. read_word j bytes) k ∙ read_word_last (m - length front - 1) n bytes rest letter star)

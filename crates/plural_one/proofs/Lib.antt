@@ -1,9 +1,11 @@
 pub mod Digits
 pub mod Texts
 pub mod Letters
+pub mod ProductLists
 pub mod Values
 pub mod Monomials
 pub mod Scripted
 pub mod Runs
 pub mod Relations
 pub mod Products
+pub mod Bases

@@ -6,13 +6,19 @@ use Rattle.std.specs.Option.{option_map}
 use Rattle.std.specs.List.{list_all}
 use Rattle.std.proofs.lemmas.Bool.{and_parts, eq-eqb, ne_eqb}
 use Rattle.std.proofs.lemmas.List.{length-map}
+use Rattle.std.proofs.lemmas.Simd.{map-map}
 use Rattle.prime_field.specs.Modular.{in_table}
-use Rattle.word_model.specs.Words.{IsWord}
-use Rattle.word_model.specs.Scripts.{ShortScript, IsShortScript, is_letter, letter_number, digits_value, two_variables, read_script}
-use Rattle.word_model.specs.Answers.{line, script_text, short_answer, script_answer}
+use Rattle.monomials.specs.Polynomials.{Each}
+use Rattle.word_model.specs.Words.{Algebra, IsWord}
+use Rattle.word_model.specs.Products.{letters_product}
+use Rattle.word_model.specs.Machine.{machine}
+use Rattle.word_model.specs.declared.records.Mode.TheVariants.{Left}
+use Rattle.word_model.specs.Scripts.{ShortScript, Product, Basis, IsProduct, IsRequest, is_letter, letter_number, word_of, digits_value, two_variables, script_algebra, read_script}
+use Rattle.word_model.specs.Scripts.{Request as AsBytes}
+use Rattle.word_model.specs.Answers.{line, run_answer, run_budget, request_answer, short_answer, script_answer}
 use Rattle.word_model.proofs.ReadingLaws.{script_bytes-read_script}
-use Rattle.plural_one.specs.Readings.{ScriptValues, short_values, kept_values, IsScriptWord}
-use Rattle.plural_one.specs.Replies.{given, product_text, AnswersValues}
+use Rattle.plural_one.specs.Readings.{ScriptValues, words_asked, kept_words, short_values, kept_values, IsScriptWord, IsScriptRequest}
+use Rattle.plural_one.specs.Replies.{given, words_answer, AnswersValues}
 use Rattle.plural_one.specs.declared.run.Reply.{Reply}
 use Rattle.plural_one.specs.declared.script.Script.{Script}
 
@@ -25,31 +31,49 @@ letters_word (b ∷ letters) h =
       letter_within true = (omega arith, omega arith)
       letter_within false = (omega arith, omega arith)
 
--- the word of an accepted script
-short_word : (s : ShortScript) → IsShortScript s → IsScriptWord (map letter_number s.letters)
-short_word s h = record {
-  letters = letters_word s.letters h.letters;
-  some = omega (arith, h.some, length-map s.letters letter_number);
-  few = omega (arith, h.few, length-map s.letters letter_number);
+-- the word of a product
+product_word : (letters : List ℕ) → IsProduct letters → IsScriptWord (word_of letters)
+product_word letters h = record {
+  letters = letters_word letters h.all_letters;
+  some = omega (arith, h.some, length-map letters letter_number);
+  few = omega (arith, h.few, length-map letters letter_number);
 }
 
--- the word of a script that was read
-pub read_script_word : (bytes : List ℕ) (script : Option Script) → option_map kept_values script ≡ option_map short_values (read_script bytes)
-    → IfSome script (λ s. IsScriptWord s.letters.items)
-read_script_word bytes script e = word_of script (read_script bytes) refl e where
-  word_of : (script : Option Script) (read : Option ShortScript) → read_script bytes ≡ read
-      → option_map kept_values script ≡ option_map short_values read → IfSome script (λ s. IsScriptWord s.letters.items)
-  word_of None read is e = tt
-  word_of (Some s) None is e = cc
-  word_of (Some s) (Some t) is e =
-      let values : kept_values s ≡ short_values t = cc in
-      subst IsScriptWord (sym (ap (λ (v : ScriptValues). v.word) values)) (short_word t (script_bytes-read_script bytes t is).0)
+-- the words of an accepted request
+request_words : (request : AsBytes) → IsRequest request → IsScriptRequest (words_asked request)
+request_words (Product letters) h = product_word letters h
+request_words (Basis products) h =
+    (omega (arith, h.0, length-map products word_of), omega (arith, h.1, length-map products word_of), all products h.2)
+  where
+    all : (products : List (List ℕ)) → Each IsProduct products → Each IsScriptWord (map word_of products)
+    all [] h = tt
+    all (x ∷ products) h = (product_word x h.0, all products h.1)
+
+-- the request of a script that was read
+pub read_script_request : (bytes : List ℕ) (script : Option Script) → option_map kept_values script ≡ option_map short_values (read_script bytes)
+    → IfSome script (λ s. IsScriptRequest (kept_words s.request))
+read_script_request bytes script e = by script (read_script bytes) refl e
+  where
+    by : (script : Option Script) (read : Option ShortScript) → read_script bytes ≡ read
+        → option_map kept_values script ≡ option_map short_values read → IfSome script (λ s. IsScriptRequest (kept_words s.request))
+    by None read is e = tt
+    by (Some s) None is e = cc
+    by (Some s) (Some t) is e =
+        let values : kept_values s ≡ short_values t = cc in
+        subst IsScriptRequest (sym (ap (λ (v : ScriptValues). v.request) values))
+        (request_words t.request (script_bytes-read_script bytes t is).0.request)
 
 -- the answer to a script that was read
 pub script_answered : (read : Option ShortScript) (s : Script) (reply : Reply) → Some (kept_values s) ≡ option_map short_values read
     → AnswersValues (kept_values s) reply → given reply ≡ script_answer read
 script_answered None s reply e h = cc
 script_answered (Some t) s reply e h = let values : kept_values s ≡ short_values t = cc in h t (sym values)
+
+-- a request is answered by its words
+request_answered : (A : Algebra) (request : AsBytes) → words_answer A (words_asked request) ≡ request_answer A request
+unfolding request_answer
+request_answered A (Product letters) = refl
+request_answered A (Basis products) = ap (λ gens. run_answer A (machine A gens Left run_budget)) (map-map (letters_product A) word_of products)
 
 -- ---- what a script is answered, by its values
 
@@ -74,18 +98,17 @@ module _ (s : ShortScript) where
           → short_answer s ≡ record { text = line (codes "? line 2: Coefficient 1 2"); status = 3 }
       answer listed test = rw (listed, test) refl
 
-  -- its product is printed
-  pub answer_product : (v : ScriptValues) → short_values s ≡ v → in_table v.numbers.characteristic ≡ true
-      → v.numbers.factor % v.numbers.characteristic ≢ 0 → (text : List ℕ)
-      → text ≡ product_text (two_variables v.numbers.characteristic v.numbers.factor v.numbers.constant) v.word
-      → record { text = text; status = 0 } ≡ short_answer s
-  unfolding short_answer script_text
-  answer_product v is listed some text e =
+  -- its request is answered
+  pub answer_request : (v : ScriptValues) → short_values s ≡ v → in_table v.numbers.characteristic ≡ true
+      → v.numbers.factor % v.numbers.characteristic ≢ 0
+      → words_answer (two_variables v.numbers.characteristic v.numbers.factor v.numbers.constant) v.request ≡ short_answer s
+  unfolding short_answer
+  answer_request v is listed some =
       let test : v.numbers.factor % v.numbers.characteristic == 0 ≡ false = ne_eqb (v.numbers.factor % v.numbers.characteristic) 0 some in
-      answer (subst (λ v. in_table v.numbers.characteristic ≡ true) (sym is) listed)
-      (subst (λ v. (v.numbers.factor % v.numbers.characteristic == 0) ≡ false) (sym is) test)
-      (subst (λ v. text ≡ product_text (two_variables v.numbers.characteristic v.numbers.factor v.numbers.constant) v.word) (sym is) e)
+      subst (λ (v : ScriptValues). words_answer (two_variables v.numbers.characteristic v.numbers.factor v.numbers.constant) v.request ≡ short_answer s) is
+      (answer (subst (λ v. in_table v.numbers.characteristic ≡ true) (sym is) listed)
+      (subst (λ v. (v.numbers.factor % v.numbers.characteristic == 0) ≡ false) (sym is) test))
     where
       answer : in_table (digits_value s.characteristic) ≡ true → (digits_value s.factor % digits_value s.characteristic == 0) ≡ false
-          → text ≡ script_text s → record { text = text; status = 0 } ≡ short_answer s
-      answer listed test e = rw (listed, test, e) refl
+          → words_answer (script_algebra s) (words_asked s.request) ≡ short_answer s
+      answer listed test = rw (listed, test) (request_answered (script_algebra s) s.request)

@@ -2,27 +2,46 @@
 use Rattle.std.specs.Prelude.{◌≡◌, ℕ, ◌≤◌, length, List, [], ◌∷◌, ◌++◌, map, Option, Some, None, codes, if◌then◌else◌, option_and_then}
 use Rattle.std.specs.Option.{option_map}
 use Rattle.word_model.specs.Words.{Word, IsWord}
-use Rattle.word_model.specs.Scripts.{ShortScript, line_feed, digits_value, is_letter, letter_number, after_text, read_number, read_letters}
+use Rattle.monomials.specs.Polynomials.{Each}
+use Rattle.word_model.specs.Scripts.{ShortScript, Product, Basis, line_feed, digits_value, is_letter, letter_number, word_of, after_text, read_number, read_letters, read_products, read_request}
+use Rattle.word_model.specs.Scripts.{Request as AsBytes}
 use Rattle.plural_one.specs.declared.script.Numbers.{Numbers}
+use Rattle.plural_one.specs.declared.script.Request.{Request}
+use Rattle.plural_one.specs.declared.script.Request.TheVariants
 use Rattle.plural_one.specs.declared.script.Script.{Script}
 
--- a script's numbers and its word
+-- what a script asks for, by words: a product, or the basis of products
+pub data RequestWords : Type 0 where
+  ProductOf : Word → RequestWords
+  BasisOf : List Word → RequestWords
+
+-- a script's numbers and the words of its request
 pub record ScriptValues : Type 0 where
   pub numbers : Numbers
-  pub word : Word
+  pub request : RequestWords
+
+-- the words of letters
+abbrev pub words_asked : AsBytes → RequestWords
+words_asked (Product letters) = ProductOf (word_of letters)
+words_asked (Basis products) = BasisOf (map word_of products)
+
+-- the words that the program keeps
+abbrev pub kept_words : Request → RequestWords
+kept_words (TheVariants.Product letters) = ProductOf letters.items
+kept_words (TheVariants.Basis words) = BasisOf (map (λ w. w.items) words.items)
 
 -- the values of the numbers and of the letters that a script leaves open
 abbrev pub short_values : ShortScript → ScriptValues
 short_values s = record {
   numbers = record { characteristic = digits_value s.characteristic; factor = digits_value s.factor; constant = digits_value s.constant };
-  word = map letter_number s.letters;
+  request = words_asked s.request;
 }
 
 -- what the program keeps
 abbrev pub kept_values : Script → ScriptValues
 kept_values s = record {
   numbers = s.numbers;
-  word = s.letters.items;
+  request = kept_words s.request;
 }
 
 -- a word of 1 to 64 letters
@@ -30,6 +49,11 @@ pub record IsScriptWord (w : Word) : Type 0 where
   pub letters : IsWord 2 w
   pub some : 1 ≤ length w
   pub few : length w ≤ 64
+
+-- such a word, or 1 to 8 of them
+abbrev pub IsScriptRequest : RequestWords → Type 0
+IsScriptRequest (ProductOf w) = IsScriptWord w
+IsScriptRequest (BasisOf words) = (1 ≤ length words) × (length words ≤ 8) × Each IsScriptWord words
 
 -- A reader with these bytes answered this and has those bytes left: the value that is read with the bytes behind it,
 -- or nothing where nothing is read.
@@ -52,9 +76,17 @@ read_letter (b ∷ bytes) = if is_letter b then Some (letter_number b, bytes) el
 
 -- the numbers of at most k letters with `*` between them
 abbrev pub read_word : ℕ → List ℕ → Option (Word × List ℕ)
-read_word k bytes = option_map (λ (letters, rest). (map letter_number letters, rest)) (read_letters k bytes)
+read_word k bytes = option_map (λ (letters, rest). (word_of letters, rest)) (read_letters k bytes)
 
--- the three numbers in front of the letters
+-- the words of at most k products with `,` between them
+abbrev pub read_words : ℕ → List ℕ → Option (List Word × List ℕ)
+read_words k bytes = option_map (λ (products, rest). (map word_of products, rest)) (read_products k bytes)
+
+-- the words of a request
+abbrev pub read_request_words : List ℕ → Option (RequestWords × List ℕ)
+read_request_words bytes = option_map (λ (request, rest). (words_asked request, rest)) (read_request bytes)
+
+-- the three numbers in front of the request
 abbrev pub read_numbers : List ℕ → Option (Numbers × List ℕ)
 read_numbers bytes = do
   b0 ← after_text (codes "ring r = ") bytes
@@ -75,6 +107,6 @@ values_at_end s (b ∷ bytes) = None
 abbrev pub read_values : List ℕ → Option ScriptValues
 read_values bytes = do
   n ← read_numbers bytes
-  w ← read_word 64 n.1
-  b ← after_text (codes ";" ++ line_feed) w.1
-  values_at_end (record { numbers = n.0; word = w.0 }) b
+  r ← read_request_words n.1
+  b ← after_text (codes ";" ++ line_feed) r.1
+  values_at_end (record { numbers = n.0; request = r.0 }) b

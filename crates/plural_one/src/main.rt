@@ -1,6 +1,9 @@
-//! Reads a script of three lines on standard input, and prints the product that it asks for.
+//! Reads a script of three lines on standard input, and prints the product or the basis that it
+//! asks for.
 #![tactic(auto)]
 
+mod basis;
+mod finish;
 mod product;
 mod run;
 mod script;

@@ -4,12 +4,13 @@ ghost use Rattle.std.specs.Prelude.{◌≡◌, ◌<◌, ℕ, length, map, string
 ghost use Rattle.plural_io.specs.Faults.{Rose};
 ghost use Rattle.word_model.specs.Answers.{script_answer};
 ghost use Rattle.word_model.specs.Scripts.{read_script};
-ghost use Rattle.plural_one.specs.Readings.{IsScriptWord, kept_values};
-ghost use Rattle.plural_one.specs.Replies.{given, stopped_status, fault_reply, product_text, Answers, AnswersValues};
+ghost use Rattle.plural_one.specs.Readings.{IsScriptWord, IsScriptRequest, kept_words, kept_values};
+ghost use Rattle.plural_one.specs.Replies.{given, stopped_status, fault_reply, product_text, words_answer, Answers, AnswersValues};
 ghost use Rattle.plural_one.specs.Runs.{IsRun, IsUndisturbed};
 
+use crate::basis::reply_to_basis;
 use crate::product::{letters_product, two_variables};
-use crate::script::{self, Script};
+use crate::script::{self, Request, Script};
 use crate::text::polynomial_text;
 use algebra::Algebra;
 use plural_io::{ReadAllFault, Sink, Source, read_all, write_all_of};
@@ -37,7 +38,7 @@ const COEFFICIENT: &[u8] = b"? line 2: Coefficient 1 2\n";
 
 /// What the program answers.
 #[derive(Drop)]
-enum Reply {
+pub enum Reply {
     /// There are command words.
     Words,
     /// There are more bytes than a script may have.
@@ -48,8 +49,10 @@ enum Reply {
     Characteristic(String),
     /// The number of the script's relation is zero.
     Coefficient,
-    /// The line of the product that the script asks for.
-    Product(String),
+    /// The line that refuses what the script asks for.
+    Refused(String),
+    /// The text of what the script asks for.
+    Text(String),
 }
 
 impl Reply {
@@ -61,7 +64,8 @@ impl Reply {
             Reply::TooLong => TOO_LONG,
             Reply::Form => FORM,
             Reply::Coefficient => COEFFICIENT,
-            Reply::Characteristic(text) | Reply::Product(text) => text.as_bytes(),
+            Reply::Characteristic(text) | Reply::Refused(text) | Reply::Text(text) =>
+                text.as_bytes(),
         }
     }
 
@@ -72,7 +76,8 @@ impl Reply {
             Reply::Words => 2,
             Reply::TooLong | Reply::Form | Reply::Characteristic(_) => 1,
             Reply::Coefficient => 3,
-            Reply::Product(_) => 0,
+            Reply::Refused(_) => 4,
+            Reply::Text(_) => 0,
         }
     }
 }
@@ -177,9 +182,9 @@ fn reply_to_script(alloc: Global, bytes: &[u8]) -> Result<Reply, AllocError>
     }
 }
 
-// The reply to the numbers and the letters of a script.
+// The reply to the numbers and the request of a script.
 fn reply_to_values(alloc: Global, script: &Script) -> Result<Reply, AllocError>
-    requires { IsScriptWord script.now.letters.items }
+    requires { IsScriptRequest (kept_words script.now.request) }
     ensures { IfOk result (AnswersValues (kept_values script.now)) }
 {
     let numbers = script.numbers;
@@ -189,8 +194,24 @@ fn reply_to_values(alloc: Global, script: &Script) -> Result<Reply, AllocError>
         return Ok(Reply::Characteristic(line));
     };
     match two_variables(alloc, field, numbers.factor, numbers.constant)? {
-        Some(algebra) => Ok(Reply::Product(product_line(alloc, &algebra, &script.letters)?)),
+        Some(algebra) => reply_to_request(alloc, &algebra, &script.request),
         None => Ok(Reply::Coefficient),
+    }
+}
+
+// The reply to what a script asks for.
+fn reply_to_request(
+    alloc: Global,
+    algebra: &Algebra,
+    request: &Request,
+) -> Result<Reply, AllocError>
+    requires vars { algebra.now.order.vars ≡ 2 }
+    requires request { IsScriptRequest (kept_words request.now) }
+    ensures { IfOk result (λ reply. given reply ≡ words_answer algebra.now (kept_words request.now)) }
+{
+    match request {
+        Request::Product(letters) => Ok(Reply::Text(product_line(alloc, algebra, letters)?)),
+        Request::Basis(words) => reply_to_basis(alloc, algebra, words),
     }
 }
 

@@ -1,16 +1,19 @@
 //! Reading a script.
 
-ghost use Rattle.std.specs.Prelude.{◌≡◌, ◌≤◌, ℕ, length, true, codes, IfOk, MatchOption, IfNone, IfSome, ◌==◌, ◌↔◌, IsTrue, []};
+ghost use Rattle.std.specs.Prelude.{◌≡◌, ◌≤◌, ℕ, length, map, true, codes, IfOk, MatchOption, IfNone, IfSome, ◌==◌, ◌↔◌, IsTrue, []};
 ghost use Rattle.std.specs.List.{list_all, prefix_len};
 ghost use Rattle.std.specs.Option.{option_map};
 ghost use Rattle.word_model.specs.Scripts.{is_digit, digits_value, after_text, read_script};
-ghost use Rattle.plural_one.specs.Readings.{Reads, read_value, read_numbers, read_letter, read_word, read_values, short_values, kept_values, IsScriptWord};
+ghost use Rattle.plural_one.specs.Readings.{Reads, read_value, read_numbers, read_letter, read_word, read_words, read_request_words, read_values, short_values, kept_words, kept_values, IsScriptRequest};
 
 use std::alloc::{AllocError, Global};
 use std::marker::Model;
 
 /// The most letters that a product may have.
 const MOST_LETTERS: usize = 64;
+
+/// The most products whose basis may be asked for.
+const MOST_PRODUCTS: usize = 8;
 
 /// The most digits that a number may have.
 const MOST_DIGITS: usize = 9;
@@ -24,11 +27,20 @@ pub struct Numbers {
     pub constant: u32,
 }
 
-/// A script: its numbers, and the letters of the product that it asks for, 1 for x and 2 for d.
+/// What a script asks for. A product is its letters, 1 for x and 2 for d.
+#[derive(Drop)]
+pub enum Request {
+    /// This product.
+    Product(Vec<u8>),
+    /// The left Gröbner basis of these products.
+    Basis(Vec<Vec<u8>>),
+}
+
+/// A script: its numbers, and what it asks for.
 #[derive(Drop)]
 pub struct Script {
     pub numbers: Numbers,
-    pub letters: Vec<u8>,
+    pub request: Request,
 }
 
 /// The bytes of a script that are not read yet. A contract sees them.
@@ -69,7 +81,7 @@ impl<'a> Reader<'a> {
         Some(value_of(digits))
     }
 
-    /// Reads the lines in front of the product, and keeps their numbers.
+    /// Reads the lines in front of the request, and keeps their numbers.
     fn numbers(&mut self) -> Option<Numbers>
         ensures { Reads (read_numbers self.old) result self.new }
     {
@@ -119,6 +131,41 @@ impl<'a> Reader<'a> {
         Ok(None)
     }
 
+    /// Reads products with `,` between them, and answers the numbers of their letters.
+    fn words(&mut self, alloc: Global) -> Result<Option<Vec<Vec<u8>>>, AllocError>
+        ensures { IfOk result (λ words. Reads (read_words MOST_PRODUCTS self.old)
+            (option_map (λ v. map (λ w. w.items) v.items) words) self.new) }
+    {
+        let mut words = Vec::new(alloc);
+        while words.len() < MOST_PRODUCTS {
+            let Some(word) = self.word(alloc)? else {
+                return Ok(None);
+            };
+            words.push(word)?;
+            let Some(()) = self.expect(b",") else {
+                return Ok(Some(words));
+            };
+        }
+        Ok(None)
+    }
+
+    /// Reads a product, or the products in the brackets of `std`.
+    fn request(&mut self, alloc: Global) -> Result<Option<Request>, AllocError>
+        ensures { IfOk result (λ request.
+            Reads (read_request_words self.old) (option_map kept_words request) self.new) }
+    {
+        let Some(()) = self.expect(b"std(") else {
+            return Ok(self.word(alloc)?.map(Request::Product));
+        };
+        let Some(words) = self.words(alloc)? else {
+            return Ok(None);
+        };
+        let Some(()) = self.expect(b")") else {
+            return Ok(None);
+        };
+        Ok(Some(Request::Basis(words)))
+    }
+
     /// Reads a script to its end.
     fn script(&mut self, alloc: Global) -> Result<Option<Script>, AllocError>
         ensures { IfOk result (λ script. option_map kept_values script ≡ read_values self.old) }
@@ -126,14 +173,14 @@ impl<'a> Reader<'a> {
         let Some(numbers) = self.numbers() else {
             return Ok(None);
         };
-        let Some(letters) = self.word(alloc)? else {
+        let Some(request) = self.request(alloc)? else {
             return Ok(None);
         };
         let Some(()) = self.expect(b";\n") else {
             return Ok(None);
         };
         if self.bytes.is_empty() {
-            Ok(Some(Script { numbers, letters }))
+            Ok(Some(Script { numbers, request }))
         } else {
             Ok(None)
         }
@@ -144,7 +191,7 @@ impl<'a> Reader<'a> {
 pub fn read(alloc: Global, bytes: &[u8]) -> Result<Option<Script>, AllocError>
     ensures values { IfOk result (λ script.
         option_map kept_values script ≡ option_map short_values (read_script bytes.now)) }
-    ensures word { IfOk result (λ script. IfSome script (λ s. IsScriptWord s.letters.items)) }
+    ensures request { IfOk result (λ script. IfSome script (λ s. IsScriptRequest (kept_words s.request))) }
 {
     Reader { bytes }.script(alloc)
 }

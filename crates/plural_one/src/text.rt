@@ -1,14 +1,65 @@
 //! The printed texts of polynomials.
 
 ghost use Rattle.std.specs.Prelude.{◌≡◌, ◌<◌, ◌++◌, map, length, string_bytes, OnOk, IfOk};
-ghost use Rattle.monomials.specs.Polynomials.{HasNumbers, HasVars};
+ghost use Rattle.monomials.specs.Polynomials.{Each, HasNumbers, HasVars};
 ghost use Rattle.gpoly.specs.Terms.{pair_of};
-ghost use Rattle.word_model.specs.Texts.{power_text, monomial_text, term_text, with_sign, polynomial_text};
+ghost use Rattle.word_model.specs.Texts.{power_text, monomial_text, term_text, with_sign, polynomial_text, generator_line, ideal_text};
 
 use gpoly::{GPoly, Term};
 use monomials::Expo;
 use prime_field::Field;
 use std::alloc::{AllocError, Global};
+
+/// The text of an ideal: its generators, a line for each, with their numbers behind the label.
+pub fn ideal_text(
+    alloc: Global,
+    field: Field,
+    names: &[&str],
+    label: &str,
+    generators: &[GPoly],
+) -> Result<String, AllocError>
+    requires numbers { Each (HasNumbers field) generators.now }
+    requires vars { Each (HasVars (length names.now)) generators.now }
+    ensures { IfOk result (λ text. string_bytes text
+        ≡ ideal_text field (map (λ name. name.now) names.now) label.now generators.now) }
+{
+    let mut text = String::new(alloc);
+    if generators.is_empty() {
+        write_generator(
+            alloc,
+            &mut text,
+            field,
+            names,
+            label,
+            1,
+            &GPoly::zero(alloc),
+        )?;
+        return Ok(text);
+    }
+    for (index, f) in generators.iter().enumerate() {
+        write_generator(alloc, &mut text, field, names, label, index + 1, f)?;
+    }
+    Ok(text)
+}
+
+// Appends a generator's line.
+fn write_generator(
+    alloc: Global,
+    text: &mut String,
+    field: Field,
+    names: &[&str],
+    label: &str,
+    number: usize,
+    f: &GPoly,
+) -> Result<(), AllocError>
+    requires numbers { HasNumbers field f.now }
+    requires vars { HasVars (length names.now) f.now }
+    ensures { OnOk result (string_bytes text.new ≡ string_bytes text.old
+        ++ generator_line field (map (λ name. name.now) names.now) label.now number f.now) }
+{
+    let polynomial = polynomial_text(alloc, field, names, f)?;
+    write!(text, "{label}[{number}]={polynomial}\n")
+}
 
 /// The text of a polynomial in variables of these names.
 pub fn polynomial_text(

@@ -1,12 +1,14 @@
 -- Reading a script is the inverse of its form: the bytes of a script are read as it,
 -- and bytes that are read as a script are its bytes.
-use Rattle.std.proofs.Common.{◌≡◌, ℕ, zero, suc, ◌+◌, ◌≤◌, ◌==◌, nat_le, ◌&&◌, List, [], ◌∷◌, ◌++◌, map, length, take, drop, Bool, true, false, Option, Some, None, codes, refl, sym, ◌∙◌, ap, subst, arith, inl, inr, one-add}
+use Rattle.std.proofs.Common.{◌≡◌, ℕ, zero, suc, ◌+◌, ◌≤◌, ◌==◌, nat_le, ◌&&◌, List, [], ◌∷◌, ◌++◌, map, length, take, drop, Bool, true, false, Option, Some, None, codes, refl, sym, ◌∙◌, ap, subst, arith, inl, inr, one-add, append_assoc}
 use Rattle.std.specs.Prelude.{if◌then◌else◌, option_and_then}
 use Rattle.std.specs.List.{join_with_byte, list_all, prefix_len}
 use Rattle.std.proofs.lemmas.Bool.{eqb-true, eq-eqb, and_parts, and_from, leb-true, le-leb, cases_Bool}
 use Rattle.std.proofs.lemmas.List.{take-append-drop, take_at, drop_at}
 use Rattle.std.proofs.lemmas.List.Folds.{prefix_len-append, length-prefix_len}
-use Rattle.word_model.specs.Scripts.{ShortScript, script_bytes, line_feed, is_digit, is_letter, IsNumber, IsShortScript, after_text, read_number, with_letter, read_letters, script_at_end, read_script}
+use Rattle.std.specs.Option.{option_map}
+use Rattle.monomials.specs.Polynomials.{Each}
+use Rattle.word_model.specs.Scripts.{ShortScript, Request, Product, Basis, script_bytes, product_bytes, request_bytes, line_feed, is_digit, is_letter, IsNumber, IsProduct, IsRequest, IsShortScript, after_text, read_number, with_letter, read_letters, then_products, read_products, read_basis, request_by, read_request, script_at_end, read_script}
 
 -- a conditional option that holds a value
 if_some : {X : Type 0} (b : Bool) (o : Option X) (x : X) → (if b then o else None) ≡ Some x → (b ≡ true) × (o ≡ Some x)
@@ -18,8 +20,13 @@ abbrev Read : Type 0
 Read = List ℕ × List ℕ
 
 -- equal readings have equal parts
-some_pair : (r s : Read) → Some r ≡ Some s → (r.0 ≡ s.0) × (r.1 ≡ s.1)
-some_pair r s e = let pairs : r ≡ s = cc in (ap (λ (z : Read). z.0) pairs, ap (λ (z : Read). z.1) pairs)
+some_pair : {X Y : Type 0} (r s : X × Y) → Some r ≡ Some s → (r.0 ≡ s.0) × (r.1 ≡ s.1)
+some_pair {X} {Y} r s e = let pairs : r ≡ s = cc in (ap (λ (z : X × Y). z.0) pairs, ap (λ (z : X × Y). z.1) pairs)
+
+-- a mapped option that holds a value: it holds one
+map_some : {X Y : Type 0} (f : X → Y) (o : Option X) (y : Y) → option_map f o ≡ Some y → (x : X) × (o ≡ Some x) × (f x ≡ y)
+map_some f None y e = cc
+map_some f (Some x) y e = (x, refl, cc)
 
 -- a chain that holds a value: its first step holds one
 and_then_some : {X Y : Type 0} (f : X → Option Y) (o : Option X) (y : Y) → option_and_then f o ≡ Some y
@@ -87,10 +94,6 @@ begins_with_number bytes digits rest e =
 
 -- ---- letters
 
--- letters with `*` between them
-abbrev pub product_bytes : List ℕ → List ℕ
-product_bytes letters = join_with_byte 42 (map (λ b. b ∷ []) letters)
-
 -- letters are read up to a byte that is not `*`
 pub read_letters-append : (k : ℕ) (letters : List ℕ) (b : ℕ) (rest : List ℕ) → 1 ≤ length letters → length letters ≤ k
     → list_all is_letter letters ≡ true → b == 42 ≡ false
@@ -104,7 +107,7 @@ read_letters-append (suc k) (x ∷ (y ∷ letters)) b rest some few all other =
     rw (letter.0, read_letters-append k (y ∷ letters) b rest (omega arith) (omega arith) letter.1 other) refl
 
 -- 1 to k letters stand at the front, with `*` between them
-pub record IsProduct (k : ℕ) (bytes letters rest : List ℕ) : Type 0 where
+pub record BeginsWithLetters (k : ℕ) (bytes letters rest : List ℕ) : Type 0 where
   pub some : 1 ≤ length letters
   pub few : length letters ≤ k
   pub all_letters : list_all is_letter letters ≡ true
@@ -112,7 +115,7 @@ pub record IsProduct (k : ℕ) (bytes letters rest : List ℕ) : Type 0 where
 
 -- one letter alone
 one_letter : (k b : ℕ) (bytes : List ℕ) (r : Read) → is_letter b ≡ true → ◌≡◌ {A = Option Read} (Some (b ∷ [], bytes)) (Some r)
-    → IsProduct (suc k) (b ∷ bytes) r.0 r.1
+    → BeginsWithLetters (suc k) (b ∷ bytes) r.0 r.1
 one_letter k b bytes r letter e =
     let parts = some_pair (b ∷ [], bytes) r e in record {
       some = rw (sym parts.0) (omega arith);
@@ -122,8 +125,8 @@ one_letter k b bytes r letter e =
     }
 
 -- one more letter in front
-letter_in_front : (k b : ℕ) (bytes letters rest : List ℕ) → is_letter b ≡ true → IsProduct k bytes letters rest
-    → IsProduct (suc k) (b ∷ (42 ∷ bytes)) (b ∷ letters) rest
+letter_in_front : (k b : ℕ) (bytes letters rest : List ℕ) → is_letter b ≡ true → BeginsWithLetters k bytes letters rest
+    → BeginsWithLetters (suc k) (b ∷ (42 ∷ bytes)) (b ∷ letters) rest
 letter_in_front k b bytes [] rest letter h = absurd (omega (arith, h.some))
 letter_in_front k b bytes (x ∷ letters) rest letter h = record {
   some = omega arith;
@@ -133,8 +136,8 @@ letter_in_front k b bytes (x ∷ letters) rest letter h = record {
 }
 
 more_letters : (k b : ℕ) (bytes : List ℕ) (r : Read) (read : Option Read)
-    → ((s : Read) → read ≡ Some s → IsProduct k bytes s.0 s.1) → is_letter b ≡ true
-    → with_letter b read ≡ Some r → IsProduct (suc k) (b ∷ (42 ∷ bytes)) r.0 r.1
+    → ((s : Read) → read ≡ Some s → BeginsWithLetters k bytes s.0 s.1) → is_letter b ≡ true
+    → with_letter b read ≡ Some r → BeginsWithLetters (suc k) (b ∷ (42 ∷ bytes)) r.0 r.1
 more_letters k b bytes r None behind letter e = cc
 more_letters k b bytes r (Some s) behind letter e =
     let parts = some_pair (b ∷ s.0, s.1) r e in
@@ -142,15 +145,15 @@ more_letters k b bytes r (Some s) behind letter e =
 
 -- what stands behind a letter: `*` and more letters, or anything else
 behind_letter : (star : Bool) (k b next : ℕ) (bytes : List ℕ) (r : Read) → next == 42 ≡ star
-    → ((s : Read) → read_letters k bytes ≡ Some s → IsProduct k bytes s.0 s.1) → is_letter b ≡ true
+    → ((s : Read) → read_letters k bytes ≡ Some s → BeginsWithLetters k bytes s.0 s.1) → is_letter b ≡ true
     → (if star then with_letter b (read_letters k bytes) else Some (b ∷ [], next ∷ bytes)) ≡ Some r
-    → IsProduct (suc k) (b ∷ (next ∷ bytes)) r.0 r.1
+    → BeginsWithLetters (suc k) (b ∷ (next ∷ bytes)) r.0 r.1
 behind_letter true k b next bytes r star behind letter e =
     rw (eqb-true next 42 star) (more_letters k b bytes r (read_letters k bytes) behind letter e)
 behind_letter false k b next bytes r star behind letter e = one_letter k b (next ∷ bytes) r letter e
 
 -- letters that were read stood at the front
-pub begins_with_product : (k : ℕ) (bytes : List ℕ) (r : Read) → read_letters k bytes ≡ Some r → IsProduct k bytes r.0 r.1
+pub begins_with_product : (k : ℕ) (bytes : List ℕ) (r : Read) → read_letters k bytes ≡ Some r → BeginsWithLetters k bytes r.0 r.1
 begins_with_product zero bytes r e = cc
 begins_with_product (suc k) [] r e = cc
 begins_with_product (suc k) (b ∷ []) r e =
@@ -159,6 +162,170 @@ begins_with_product (suc k) (b ∷ (next ∷ bytes)) r e =
     let behind : Option Read = if next == 42 then with_letter b (read_letters k bytes) else Some (b ∷ [], next ∷ bytes) in
     let letter = if_some (is_letter b) behind r e in
     behind_letter (next == 42) k b next bytes r refl (begins_with_product k bytes) letter.0 letter.1
+
+-- a product is read up to a byte that is not `*`
+pub read_letters-product : (letters : List ℕ) (b : ℕ) (rest : List ℕ) → IsProduct letters → b == 42 ≡ false
+    → read_letters 64 (product_bytes letters ++ b ∷ rest) ≡ Some (letters, b ∷ rest)
+read_letters-product letters b rest h other = read_letters-append 64 letters b rest h.some h.few h.all_letters other
+
+-- a product that was read stood at the front
+pub begins_with_letters : (bytes letters rest : List ℕ) → read_letters 64 bytes ≡ Some (letters, rest)
+    → IsProduct letters × (bytes ≡ product_bytes letters ++ rest)
+begins_with_letters bytes letters rest e =
+    let begins = begins_with_product 64 bytes (letters, rest) e in
+    (record { some = begins.some; few = begins.few; all_letters = begins.all_letters }, begins.front)
+
+-- ---- products
+
+-- products with `,` between them
+abbrev pub products_bytes : List (List ℕ) → List ℕ
+products_bytes products = join_with_byte 44 (map product_bytes products)
+
+-- what is read of products: they and the bytes behind them
+abbrev ReadProducts : Type 0
+ReadProducts = List (List ℕ) × List ℕ
+
+-- products are read up to a byte that is neither `*` nor `,`
+pub read_products-append : (k : ℕ) (products : List (List ℕ)) (b : ℕ) (rest : List ℕ) → 1 ≤ length products
+    → length products ≤ k → Each IsProduct products → b == 42 ≡ false → b == 44 ≡ false
+    → read_products k (products_bytes products ++ b ∷ rest) ≡ Some (products, b ∷ rest)
+read_products-append k [] b rest some few all star comma = absurd (omega arith)
+read_products-append zero (x ∷ products) b rest some few all star comma = absurd (omega arith)
+read_products-append (suc k) (x ∷ []) b rest some few all star comma =
+    rw (read_letters-product x b rest all.0 star, comma) refl
+read_products-append (suc k) (x ∷ (y ∷ products)) b rest some few all star comma =
+    let behind : List ℕ = products_bytes (y ∷ products) in
+    let star_is_no_comma : 44 == 42 ≡ false = refl in
+    ap (λ bytes. then_products (read_products k) (read_letters 64 bytes)) (append_assoc (product_bytes x) (44 ∷ behind) (b ∷ rest))
+    ∙ rw (
+      read_letters-product x 44 (behind ++ b ∷ rest) all.0 star_is_no_comma,
+      read_products-append k (y ∷ products) b rest (omega arith) (omega arith) all.1 star comma,
+    ) refl
+
+-- 1 to k products stand at the front, with `,` between them
+pub record BeginsWithProducts (k : ℕ) (bytes : List ℕ) (products : List (List ℕ)) (rest : List ℕ) : Type 0 where
+  pub some : 1 ≤ length products
+  pub few : length products ≤ k
+  pub are : Each IsProduct products
+  pub front : bytes ≡ products_bytes products ++ rest
+
+-- one product alone
+one_product : (k : ℕ) (bytes x rest : List ℕ) (r : ReadProducts) → IsProduct x × (bytes ≡ product_bytes x ++ rest)
+    → ◌≡◌ {A = Option ReadProducts} (Some (x ∷ [], rest)) (Some r) → BeginsWithProducts (suc k) bytes r.0 r.1
+one_product k bytes x rest r h e =
+    let parts = some_pair (x ∷ [], rest) r e in record {
+      some = rw (sym parts.0) (omega arith);
+      few = rw (sym parts.0) (omega arith);
+      are = rw (sym parts.0) (h.0, tt);
+      front = rw (sym parts.0, sym parts.1) h.1;
+    }
+
+-- one more product in front
+product_in_front : (k : ℕ) (bytes x behind : List ℕ) (products : List (List ℕ)) (rest : List ℕ)
+    → IsProduct x × (bytes ≡ product_bytes x ++ 44 ∷ behind) → BeginsWithProducts k behind products rest
+    → BeginsWithProducts (suc k) bytes (x ∷ products) rest
+product_in_front k bytes x behind [] rest h begins = absurd (omega (arith, begins.some))
+product_in_front k bytes x behind (y ∷ products) rest h begins = record {
+  some = omega arith;
+  few = omega (arith, begins.few);
+  are = (h.0, begins.are);
+  front = h.1 ∙ (ap (λ z. product_bytes x ++ 44 ∷ z) begins.front
+      ∙ sym (append_assoc (product_bytes x) (44 ∷ products_bytes (y ∷ products)) rest));
+}
+
+-- what stands behind a product: `,` and more products, or anything else
+behind_product : (comma : Bool) (k : ℕ) (bytes x : List ℕ) (next : ℕ) (behind : List ℕ) (r : ReadProducts) → next == 44 ≡ comma
+    → ((s : ReadProducts) → read_products k behind ≡ Some s → BeginsWithProducts k behind s.0 s.1)
+    → IsProduct x × (bytes ≡ product_bytes x ++ next ∷ behind)
+    → (if comma then option_map (λ (products, rest). (x ∷ products, rest)) (read_products k behind) else Some (x ∷ [], next ∷ behind)) ≡ Some r
+    → BeginsWithProducts (suc k) bytes r.0 r.1
+behind_product true k bytes x next behind r comma more h e =
+    let read = map_some (λ (s : ReadProducts). (x ∷ s.0, s.1)) (read_products k behind) r e in
+    let front : bytes ≡ product_bytes x ++ 44 ∷ behind = h.1 ∙ ap (λ b. product_bytes x ++ b ∷ behind) (eqb-true next 44 comma) in
+    subst (λ (s : ReadProducts). BeginsWithProducts (suc k) bytes s.0 s.1) read.2
+    (product_in_front k bytes x behind read.0.0 read.0.1 (h.0, front) (more read.0 read.1))
+behind_product false k bytes x next behind r comma more h e = one_product k bytes x (next ∷ behind) r h e
+
+-- what was read behind a product that was read
+products_after : (k : ℕ) (bytes : List ℕ) (read : Option Read) (r : ReadProducts) → read_letters 64 bytes ≡ read
+    → ((behind : List ℕ) (s : ReadProducts) → read_products k behind ≡ Some s → BeginsWithProducts k behind s.0 s.1)
+    → then_products (read_products k) read ≡ Some r → BeginsWithProducts (suc k) bytes r.0 r.1
+products_after k bytes None r is more e = cc
+products_after k bytes (Some (x, [])) r is more e = one_product k bytes x [] r (begins_with_letters bytes x [] is) e
+products_after k bytes (Some (x, next ∷ behind)) r is more e =
+    behind_product (next == 44) k bytes x next behind r refl (more behind) (begins_with_letters bytes x (next ∷ behind) is) e
+
+-- products that were read stood at the front
+pub begins_with_products : (k : ℕ) (bytes : List ℕ) (r : ReadProducts) → read_products k bytes ≡ Some r
+    → BeginsWithProducts k bytes r.0 r.1
+begins_with_products zero bytes r e = cc
+begins_with_products (suc k) bytes r e =
+    products_after k bytes (read_letters 64 bytes) r refl (begins_with_products k) e
+
+-- ---- requests
+
+-- what is read of a request: it and the bytes behind it
+abbrev ReadRequest : Type 0
+ReadRequest = Request × List ℕ
+
+-- no letter begins `std(`
+letter_is_no_s : (b : ℕ) → is_letter b ≡ true → 115 == b ≡ false
+letter_is_no_s b letter =
+    elim (cases_Bool (115 == b)) [
+      | inl same ↦ absurd (let is : 115 ≡ b = eqb-true 115 b same in subst (λ z. is_letter z ≡ true → ⊥) is (λ e. cc) letter)
+      | inr other ↦ other
+    ]
+
+-- a product is read as a request for it
+read_request-product : (letters : List ℕ) (b : ℕ) (rest : List ℕ) → IsProduct letters → b == 42 ≡ false
+    → read_request (product_bytes letters ++ b ∷ rest) ≡ Some (Product letters, b ∷ rest)
+read_request-product [] b rest h star = absurd (omega (arith, h.some))
+read_request-product (x ∷ []) b rest h star =
+    rw (letter_is_no_s x (and_parts (is_letter x) true h.all_letters).0)
+    (ap (option_map (λ (r : Read). (Product r.0, r.1))) (read_letters-product (x ∷ []) b rest h star))
+read_request-product (x ∷ (y ∷ letters)) b rest h star =
+    rw (letter_is_no_s x (and_parts (is_letter x) (list_all is_letter (y ∷ letters)) h.all_letters).0)
+    (ap (option_map (λ (r : Read). (Product r.0, r.1))) (read_letters-product (x ∷ (y ∷ letters)) b rest h star))
+
+-- products in brackets are read as a request for their basis
+read_basis-append : (products : List (List ℕ)) (rest : List ℕ) → IsRequest (Basis products)
+    → read_basis (products_bytes products ++ (codes ")" ++ rest)) ≡ Some (Basis products, rest)
+read_basis-append products rest h =
+    let star : 41 == 42 ≡ false = refl in
+    let comma : 41 == 44 ≡ false = refl in
+    rw (read_products-append 8 products 41 rest h.0 h.1 h.2 star comma) refl
+
+-- a request is read up to a byte that is not `*`
+pub read_request-append : (r : Request) (b : ℕ) (rest : List ℕ) → IsRequest r → b == 42 ≡ false
+    → read_request (request_bytes r ++ b ∷ rest) ≡ Some (r, b ∷ rest)
+read_request-append (Product letters) b rest h star = read_request-product letters b rest h star
+read_request-append (Basis products) b rest h star =
+    ap (λ bytes. read_basis bytes) (append_assoc (products_bytes products) (codes ")") (b ∷ rest))
+    ∙ read_basis-append products (b ∷ rest) h
+
+-- a request that was read, by what followed `std(`, stood at the front
+begins_with_request_by : (after : Option (List ℕ)) (bytes : List ℕ) (r : Request) (rest : List ℕ) → after_text (codes "std(") bytes ≡ after
+    → request_by after bytes ≡ Some (r, rest) → IsRequest r × (bytes ≡ request_bytes r ++ rest)
+begins_with_request_by None bytes r rest is e =
+    let read = map_some (λ (s : Read). (Product s.0, s.1)) (read_letters 64 bytes) (r, rest) e in
+    let begins = begins_with_letters bytes read.0.0 read.0.1 read.1 in
+    subst (λ (s : ReadRequest). IsRequest s.0 × (bytes ≡ request_bytes s.0 ++ s.1)) read.2 begins
+begins_with_request_by (Some behind) bytes r rest is e =
+    let close = λ (s : ReadProducts). option_map (λ (after : List ℕ). (Basis s.0, after)) (after_text (codes ")") s.1) in
+    let read = and_then_some close (read_products 8 behind) (r, rest) e in
+    let closed = map_some (λ (after : List ℕ). (Basis read.0.0, after)) (after_text (codes ")") read.0.1) (r, rest) read.2 in
+    let begins = begins_with_products 8 behind read.0 read.1 in
+    let list : List ℕ = products_bytes read.0.0 in
+    let front : bytes ≡ request_bytes (Basis read.0.0) ++ closed.0 =
+    begins_with_text (codes "std(") bytes behind is ∙ ap (λ z. codes "std(" ++ z) (begins.front
+    ∙ (ap (λ z. list ++ z) (begins_with_text (codes ")") read.0.1 closed.0 closed.1) ∙ sym (append_assoc list (codes ")") closed.0))) in
+    subst (λ (s : ReadRequest). IsRequest s.0 × (bytes ≡ request_bytes s.0 ++ s.1)) closed.2
+    ((begins.some, begins.few, begins.are), front)
+
+-- a request that was read stood at the front
+pub begins_with_request : (bytes : List ℕ) (r : Request) (rest : List ℕ) → read_request bytes ≡ Some (r, rest)
+    → IsRequest r × (bytes ≡ request_bytes r ++ rest)
+begins_with_request bytes r rest e = begins_with_request_by (after_text (codes "std(") bytes) bytes r rest refl e
 
 -- ---- scripts
 
@@ -171,28 +338,26 @@ read_script-script_bytes s h =
     let e : IsNumber s.constant = h.constant in
     let comma : is_digit 44 ≡ false = refl in
     let bracket : is_digit 41 ≡ false = refl in
-    let some : 1 ≤ length s.letters = h.some in
-    let few : length s.letters ≤ 64 = h.few in
-    let all : list_all is_letter s.letters ≡ true = h.letters in
+    let request : IsRequest s.request = h.request in
     let semicolon : 59 == 42 ≡ false = refl in
-    rw (read_number-append, read_number-append, read_number-append, read_letters-append) refl
+    rw (read_number-append, read_number-append, read_number-append, read_request-append) refl
 
 -- with no byte left, what was read is the script
 at_end : (s t : ShortScript) (bytes : List ℕ) → script_at_end s bytes ≡ Some t → (bytes ≡ []) × (s ≡ t)
 at_end s t (b ∷ bytes) e = cc
 at_end s t [] e = (refl, cc)
 
--- the steps of the reading, the last one first: what is left to read behind the numbers and the letters so far
+-- the steps of the reading, the last one first: what is left to read behind the numbers and the request so far
 module _ (p : List ℕ) where
-  read_end : List ℕ → List ℕ → Read → Option ShortScript
-  read_end c e w =
-      option_and_then (script_at_end (record { characteristic = p; factor = c; constant = e; letters = w.0 })) (after_text (codes ";" ++ line_feed) w.1)
+  read_end : List ℕ → List ℕ → ReadRequest → Option ShortScript
+  read_end c e r =
+      option_and_then (script_at_end (record { characteristic = p; factor = c; constant = e; request = r.0 })) (after_text (codes ";" ++ line_feed) r.1)
 
-  read_product : List ℕ → List ℕ → List ℕ → Option ShortScript
-  read_product c e bytes = option_and_then (read_end c e) (read_letters 64 bytes)
+  read_third : List ℕ → List ℕ → List ℕ → Option ShortScript
+  read_third c e bytes = option_and_then (read_end c e) (read_request bytes)
 
   read_setring : List ℕ → Read → Option ShortScript
-  read_setring c e = option_and_then (read_product c e.0) (after_text (codes "); setring W;" ++ line_feed) e.1)
+  read_setring c e = option_and_then (read_third c e.0) (after_text (codes "); setring W;" ++ line_feed) e.1)
 
   read_constant : List ℕ → List ℕ → Option ShortScript
   read_constant c bytes = option_and_then (read_setring c) (read_number bytes)
@@ -211,13 +376,13 @@ script_from_parts : (s : ShortScript) (b b0 b1 b2 b3 b4 b5 b6 b7 b8 : List ℕ)
     → b ≡ codes "ring r = " ++ b0 → b0 ≡ s.characteristic ++ b1
     → b1 ≡ codes ",(x,d),dp;" ++ (line_feed ++ codes "def W = nc_algebra(") ++ b2 → b2 ≡ s.factor ++ b3
     → b3 ≡ codes "," ++ b4 → b4 ≡ s.constant ++ b5 → b5 ≡ codes "); setring W;" ++ line_feed ++ b6
-    → b6 ≡ product_bytes s.letters ++ b7 → b7 ≡ codes ";" ++ line_feed ++ b8 → b8 ≡ [] → b ≡ script_bytes s
+    → b6 ≡ request_bytes s.request ++ b7 → b7 ≡ codes ";" ++ line_feed ++ b8 → b8 ≡ [] → b ≡ script_bytes s
 script_from_parts s b b0 b1 b2 b3 b4 b5 b6 b7 b8 f0 f1 f2 f3 f4 f5 f6 f7 f8 f9 =
     rw (f0, f1, f2, f3, f4, f5, f6, f7, f8, f9) refl
 
 -- bytes that are read as a script are those of a script
 pub script_bytes-read_script : (bytes : List ℕ) (s : ShortScript) → read_script bytes ≡ Some s → IsShortScript s × (bytes ≡ script_bytes s)
-unfolding read_script read_variables read_factor read_comma read_constant read_setring read_product read_end
+unfolding read_script read_variables read_factor read_comma read_constant read_setring read_third read_end
 script_bytes-read_script bytes s h =
     let ring_text : List ℕ = codes "ring r = " in
     let variables_text : List ℕ = codes ",(x,d),dp;" ++ (line_feed ++ codes "def W = nc_algebra(") in
@@ -229,25 +394,23 @@ script_bytes-read_script bytes s h =
     let c = and_then_some (read_comma p.0.0) (read_number b2.0) s b2.2 in
     let b4 = and_then_some (read_constant p.0.0 c.0.0) (after_text (codes ",") c.0.1) s c.2 in
     let e = and_then_some (read_setring p.0.0 c.0.0) (read_number b4.0) s b4.2 in
-    let b6 = and_then_some (read_product p.0.0 c.0.0 e.0.0) (after_text setring_text e.0.1) s e.2 in
-    let w = and_then_some (read_end p.0.0 c.0.0 e.0.0) (read_letters 64 b6.0) s b6.2 in
-    let read : ShortScript = record { characteristic = p.0.0; factor = c.0.0; constant = e.0.0; letters = w.0.0 } in
-    let b8 = and_then_some (script_at_end read) (after_text end_text w.0.1) s w.2 in
+    let b6 = and_then_some (read_third p.0.0 c.0.0 e.0.0) (after_text setring_text e.0.1) s e.2 in
+    let r = and_then_some (read_end p.0.0 c.0.0 e.0.0) (read_request b6.0) s b6.2 in
+    let read : ShortScript = record { characteristic = p.0.0; factor = c.0.0; constant = e.0.0; request = r.0.0 } in
+    let b8 = and_then_some (script_at_end read) (after_text end_text r.0.1) s r.2 in
     let p_is = begins_with_number b0.0 p.0.0 p.0.1 p.1 in
     let c_is = begins_with_number b2.0 c.0.0 c.0.1 c.1 in
     let e_is = begins_with_number b4.0 e.0.0 e.0.1 e.1 in
-    let w_is = begins_with_product 64 b6.0 w.0 w.1 in
+    let r_is = begins_with_request b6.0 r.0.0 r.0.1 r.1 in
     let ends = at_end read s b8.0 b8.2 in
     let is_script : IsShortScript read = record {
       characteristic = p_is.0;
       factor = c_is.0;
       constant = e_is.0;
-      some = w_is.some;
-      few = w_is.few;
-      letters = w_is.all_letters;
+      request = r_is.0;
     } in
-    let front = script_from_parts read bytes b0.0 p.0.1 b2.0 c.0.1 b4.0 e.0.1 b6.0 w.0.1 b8.0
+    let front = script_from_parts read bytes b0.0 p.0.1 b2.0 c.0.1 b4.0 e.0.1 b6.0 r.0.1 b8.0
     (begins_with_text ring_text bytes b0.0 b0.1) p_is.1 (begins_with_text variables_text p.0.1 b2.0 b2.1) c_is.1
-    (begins_with_text (codes ",") c.0.1 b4.0 b4.1) e_is.1 (begins_with_text setring_text e.0.1 b6.0 b6.1) w_is.front
-    (begins_with_text end_text w.0.1 b8.0 b8.1) ends.0 in
+    (begins_with_text (codes ",") c.0.1 b4.0 b4.1) e_is.1 (begins_with_text setring_text e.0.1 b6.0 b6.1) r_is.1
+    (begins_with_text end_text r.0.1 b8.0 b8.1) ends.0 in
     subst (λ t. IsShortScript t × (bytes ≡ script_bytes t)) ends.1 (is_script, front)

@@ -48,3 +48,17 @@ later_texts p names (t ∷ f) = with_sign (term_text p names t) ++ later_texts p
 abbrev pub polynomial_text : ℕ → List (List ℕ) → Polynomial → List ℕ
 polynomial_text p names [] = codes "0"
 polynomial_text p names (t ∷ f) = term_text p names t ++ later_texts p names f
+
+-- a generator's line: the label with its number, and the polynomial
+abbrev pub generator_line : ℕ → List (List ℕ) → List ℕ → ℕ → Polynomial → List ℕ
+generator_line p names label k f = label ++ (codes "[" ++ (decimal k ++ (codes "]=" ++ (polynomial_text p names f ++ codes "\n"))))
+
+-- the lines of generators whose numbers count from k
+abbrev pub generator_lines : ℕ → List (List ℕ) → List ℕ → ℕ → List Polynomial → List ℕ
+generator_lines p names label k [] = []
+generator_lines p names label k (f ∷ list) = generator_line p names label k f ++ generator_lines p names label (suc k) list
+
+-- an ideal: a line for each generator, and one with 0 where there is none
+abbrev pub ideal_text : ℕ → List (List ℕ) → List ℕ → List Polynomial → List ℕ
+ideal_text p names label [] = generator_line p names label 1 []
+ideal_text p names label (f ∷ list) = generator_lines p names label 1 (f ∷ list)

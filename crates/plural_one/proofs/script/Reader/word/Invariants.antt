@@ -1,11 +1,11 @@
 use Rattle.std.proofs.Common.{◌≡◌, ◌-◌, ◌≤◌, length}
 use Rattle.plural_one.specs.Readings.{read_word}
-use Rattle.plural_one.proofs.Letters.{word_in_front}
+use Rattle.plural_one.proofs.Letters.{in_front}
 use Rattle.plural_one.proofs.script.Reader.word.Given as goal
 
 abbrev pub invariant-loop-self : goal.invariant-loop-self
 invariant-loop-self l = record {
-  read : word_in_front l.word.items (read_word (64 - length l.word.items) l.self) ≡ read_word 64 l.initial.self;
+  read : in_front l.word.items (read_word (64 - length l.word.items) l.self) ≡ read_word 64 l.initial.self;
   few : length l.word.items ≤ 64;
 }
 

@@ -7,3 +7,5 @@ pub mod Scripted
 pub mod Runs
 pub mod Relations
 pub mod Products
+pub mod Finishing
+pub mod Tails

@@ -1,6 +1,7 @@
 //! Reads a script of three lines on standard input, and prints the product that it asks for.
 #![tactic(auto)]
 
+mod finish;
 mod product;
 mod run;
 mod script;

@@ -57,6 +57,7 @@ pub fn reduce<B: Elements>(
     basis: &B,
     h: GPoly,
 ) -> Result<Reduced, AllocError>
+    requires few { length (B.elements basis.now) ≤ 4294967295 }
     requires sorted { Each (IsPolynomial alg.now.p alg.now.order) (B.elements basis.now) }
     requires h_sorted { IsPolynomial alg.now.p alg.now.order h }
     ensures value { IfOk result (λ r. r ≡ reduce alg.now (B.elements basis.now) h) }
@@ -74,6 +75,7 @@ pub fn reduce_tail<B: Elements>(
     basis: &B,
     h: &GPoly,
 ) -> Result<Reduced, AllocError>
+    requires few { length (B.elements basis.now) ≤ 4294967295 }
     requires sorted { Each (IsPolynomial alg.now.p alg.now.order) (B.elements basis.now) }
     requires h_sorted { IsPolynomial alg.now.p alg.now.order h.now }
     ensures value { IfOk result (λ r. r ≡ reduce_tail alg.now (B.elements basis.now) h.now) }

@@ -37,16 +37,34 @@ impl Model for Final {
     ghost view = { λ x. record { polynomial = x.polynomial; origin = x.origin; tail = x.tail } };
 }
 
-// A basis with zero in place of the elements that are not kept.
+// The kept elements of a basis, each at its number, with zero in the other places.
 #[derive(Drop)]
 struct Kept<'a> {
     basis: &'a Vec<GPoly>,
-    is_kept: Vec<bool>,
+    kept: Vec<bool>,
     zero: GPoly,
 }
 
+impl<'a> Kept<'a> {
+    fn of(alloc: Global, basis: &'a Vec<GPoly>) -> Result<Kept<'a>, AllocError>
+        requires elements { (n : ℕ) × Each (IsNonzeroIn n) basis.now.items }
+        requires few { length basis.now.items ≤ 2048 }
+        ensures { IfOk result (λ k. select k.zero k.kept.items k.basis.now.items ≡ kept basis.now.items) }
+    {
+        let mut kept = Vec::with_capacity(alloc, basis.len())?;
+        for place in 0..basis.len() {
+            kept.push(!is_displaced(basis, place + 1))?;
+        }
+        Ok(Kept {
+            basis,
+            kept,
+            zero: GPoly::zero(alloc),
+        })
+    }
+}
+
 impl Elements for Kept<'_> {
-    ghost elements = { λ k. select k.zero k.is_kept.items k.basis.now.items };
+    ghost elements = { λ k. select k.zero k.kept.items k.basis.now.items };
 
     fn count(&self) -> usize {
         self.basis.len()
@@ -54,7 +72,7 @@ impl Elements for Kept<'_> {
 
     fn at(&self, k: u32) -> &GPoly {
         let place = k as usize - 1;
-        if keeps(&self.is_kept, place) {
+        if keeps(&self.kept, place) {
             &self.basis[place]
         } else {
             &self.zero
@@ -82,26 +100,9 @@ pub fn reduced(
     ensures list { IfOk result (λ f. finished algebra.now basis.now.items ≡ Some f) }
     ensures over { result ≡ Err ProductFault.DegreeOver → finished algebra.now basis.now.items ≡ None }
 {
-    let kept = keep(alloc, basis)?;
+    let kept = Kept::of(alloc, basis)?;
     let finals = finals(alloc, algebra, &kept)?;
     Ok(split(alloc, finals)?)
-}
-
-// The kept elements, with zero in the other places.
-fn keep<'a>(alloc: Global, basis: &'a Vec<GPoly>) -> Result<Kept<'a>, AllocError>
-    requires elements { (n : ℕ) × Each (IsNonzeroIn n) basis.now.items }
-    requires few { length basis.now.items ≤ 2048 }
-    ensures { IfOk result (λ k. select k.zero k.is_kept.items k.basis.now.items ≡ kept basis.now.items) }
-{
-    let mut is_kept = Vec::with_capacity(alloc, basis.len())?;
-    for place in 0..basis.len() {
-        is_kept.push(!is_displaced(basis, place + 1))?;
-    }
-    Ok(Kept {
-        basis,
-        is_kept,
-        zero: GPoly::zero(alloc),
-    })
 }
 
 // Whether some element makes that of number `i` needless.

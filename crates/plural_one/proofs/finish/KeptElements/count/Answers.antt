@@ -5,4 +5,4 @@ use Rattle.plural_one.proofs.finish.KeptElements.count.Goals as goal
 pub returns : goal.returns
 returns c =
     let k = c.args.self.now in
-    omega (arith, c.len.ensures, length-select k.zero k.is_kept.items k.basis.now.items, k.basis.now.ok.0)
+    omega (arith, c.len.ensures, length-select k.zero k.kept.items k.basis.now.items, k.basis.now.ok.0)

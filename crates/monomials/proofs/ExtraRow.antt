@@ -1,7 +1,6 @@
 -- An order with a row in front, as code keeps it.
-use Rattle.std.proofs.Common.{◌≡◌, ℕ, List, [], ◌∷◌, map, refl, sym, ◌∙◌, ap, subst, pos, All}
+use Rattle.std.proofs.Common.{◌≡◌, ℕ, List, [], ◌∷◌, map, sym, ◌∙◌, ap, subst, pos}
 use Rattle.std.proofs.lemmas.List.Elements.{All-cons}
-use Rattle.monomials.specs.Orders.{RowOrder}
 use Rattle.monomials.specs.Separating.{IsSeparating}
 use Rattle.monomials.specs.Lexicographic.{IsLexicographic}
 use Rattle.monomials.specs.ExtraRows.{with_rows}

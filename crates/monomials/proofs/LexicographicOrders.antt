@@ -1,12 +1,12 @@
 -- The order of blocks compares lists of whole numbers, one list for each monomial.
-use Rattle.std.proofs.Common.{◌≡◌, ℕ, zero, suc, ◌+◌, ◌-◌, List, [], ◌∷◌, ◌++◌, length, map, replicate, drop, arith, refl, sym, ◌∙◌, ap, ℤ, pos, All, length-append}
+use Rattle.std.proofs.Common.{◌≡◌, ℕ, suc, ◌+◌, ◌-◌, List, [], ◌∷◌, ◌++◌, length, map, replicate, drop, arith, refl, sym, ◌∙◌, ap, ℤ, pos, length-append}
 use Rattle.std.proofs.Common.{Ordering, Less, Equal, Greater, nat_cmp, int_cmp}
 use Rattle.std.specs.Ordering.{ordering_then}
 use Rattle.std.specs.Cmp.Lexicographic.{slice_cmp}
 use Rattle.std.proofs.lemmas.List.{length-replicate}
 use Rattle.std.proofs.lemmas.List.Elements.{All-head, All-tail}
 use Rattle.monomials.specs.Monomials.{Monomial}
-use Rattle.monomials.specs.Orders.{RowOrder, row_value, rows_cmp, order_cmp}
+use Rattle.monomials.specs.Orders.{RowOrder, row_value, rows_cmp}
 use Rattle.monomials.specs.Blocks.{first_first, last_first, block_len, block_rows, blocks_rows, order_of, HasWeights, AreWeighted}
 use Rattle.monomials.specs.Lexicographic.{IsLexicographic}
 use Rattle.monomials.specs.ExtraRows.{with_rows}

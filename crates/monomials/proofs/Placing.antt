@@ -1,6 +1,6 @@
 -- Sixteen places that hold the entries of a row.
-use Rattle.std.proofs.Common.{◌≡◌, ℕ, zero, suc, ◌+◌, ◌-◌, ◌≤◌, ◌<◌, Bool, true, false, cond, ◌||◌, nat_eq, List, [], ◌∷◌, ◌++◌, length, map, replicate, take, get_or, set, arith, refl, sym, ◌∙◌, ap, inl, inr, ℤ, pos, length-append}
-use Rattle.std.specs.List.{list_any, range_with_len}
+use Rattle.std.proofs.Common.{◌≡◌, ℕ, ◌+◌, ◌-◌, ◌≤◌, ◌<◌, Bool, true, false, cond, ◌||◌, nat_eq, List, ◌++◌, length, map, replicate, take, get_or, set, arith, refl, sym, ◌∙◌, ap, inl, inr, pos, length-append}
+use Rattle.std.specs.List.{list_any}
 use Rattle.std.proofs.lemmas.Bool.{cases_lt}
 use Rattle.std.proofs.lemmas.Bool.Decides.{nat_tests}
 use Rattle.std.proofs.lemmas.List.{ext_get_or, map-append, get_or_append_left, get_or-append_right, get_or-take, get_or-set_same, get_or-set_other, length-take-le, length-replicate, get_or-replicate}

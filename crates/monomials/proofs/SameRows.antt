@@ -1,7 +1,7 @@
 -- When rows that code keeps have the same entries.
-use Rattle.std.proofs.Common.{◌≡◌, ◌↔◌, ℕ, zero, suc, ◌+◌, ◌-◌, ◌≤◌, ◌<◌, Bool, true, false, cond, ◌||◌, List, [], ◌∷◌, ◌++◌, length, map, replicate, take, drop, get_or, set, arith, refl, sym, ◌∙◌, ap, ◌⊎◌, inl, inr, ℤ, pos, negsuc, neg_ℤ}
+use Rattle.std.proofs.Common.{◌≡◌, ◌↔◌, ℕ, zero, suc, ◌+◌, ◌-◌, ◌≤◌, ◌<◌, Bool, true, false, List, [], ◌∷◌, ◌++◌, length, map, replicate, take, get_or, set, arith, refl, sym, ◌∙◌, ap, ◌⊎◌, inl, inr, ℤ, pos, negsuc}
 use Rattle.std.specs.List.{list_any}
-use Rattle.std.proofs.lemmas.List.{map-append, map_push, length-map, get_or-map, take_more, take_all}
+use Rattle.std.proofs.lemmas.List.{map-append, map_push, length-map, get_or-map, take_more}
 use Rattle.monomials.specs.Orders.{RowOrder}
 use Rattle.monomials.specs.Blocks.{row_of}
 use Rattle.monomials.specs.Rows.{row_entries, IsWithin, falls, signed, kept_order}

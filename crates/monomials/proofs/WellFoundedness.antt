@@ -1,12 +1,12 @@
 -- Orders that compare lists of whole numbers have no infinite descent.
-use Rattle.std.proofs.Common.{◌≡◌, ℕ, zero, suc, ◌+◌, ◌<◌, ◌⊎◌, inl, inr, List, [], ◌∷◌, length, refl, sym, ap, ◌∙◌, subst, arith}
+use Rattle.std.proofs.Common.{◌≡◌, ℕ, zero, suc, ◌<◌, ◌⊎◌, inl, inr, List, [], ◌∷◌, length, refl, sym, ap, ◌∙◌, subst, arith}
 use Rattle.std.proofs.Common.{Ordering, Less, Equal, Greater, nat_cmp}
 use Rattle.std.specs.Ordering.{ordering_then}
 use Rattle.std.specs.Cmp.{ranked}
 use Rattle.std.specs.Cmp.Lexicographic.{slice_cmp}
 use mathlib.Core.WellFounded.{Acc}
 use Rattle.monomials.specs.Monomials.{Monomial}
-use Rattle.monomials.specs.Orders.{RowOrder, order_cmp}
+use Rattle.monomials.specs.Orders.{RowOrder}
 use Rattle.monomials.specs.Lexicographic.{IsLexicographic}
 use Rattle.monomials.specs.WellFounded.{IsBelow, IsReached, IsReached.reached, IsWellFounded, IsDescent}
 

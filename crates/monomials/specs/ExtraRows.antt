@@ -1,5 +1,5 @@
 -- Rows in front of an order.
-use Rattle.std.specs.Prelude.{ℕ, nat_eq, cond, List, [], ◌∷◌, ◌++◌, map, pos}
+use Rattle.std.specs.Prelude.{ℕ, nat_eq, cond, List, ◌++◌, map, pos}
 use Rattle.std.specs.List.{list_any, range_with_len}
 use Rattle.monomials.specs.Orders.{RowOrder}
 

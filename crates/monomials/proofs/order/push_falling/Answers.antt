@@ -1,5 +1,4 @@
 use Rattle.std.proofs.Common.{◌≡◌, ◌+◌, ◌-◌, arith}
-use Rattle.monomials.specs.Blocks.{last_first}
 use Rattle.monomials.proofs.AddedRows.{adds_falling, adds_all}
 use Rattle.monomials.proofs.order.push_falling.Goals as goal
 

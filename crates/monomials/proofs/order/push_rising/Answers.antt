@@ -1,5 +1,4 @@
 use Rattle.std.proofs.Common.{◌≡◌, ◌+◌, ◌-◌, arith}
-use Rattle.monomials.specs.Blocks.{first_first}
 use Rattle.monomials.proofs.AddedRows.{adds_rising, adds_all}
 use Rattle.monomials.proofs.order.push_rising.Goals as goal
 

@@ -1,6 +1,5 @@
-use Rattle.std.proofs.Common.{◌≡◌, length, map, get_or, arith}
 use Rattle.monomials.specs.Rows.{row_entries}
-use Rattle.monomials.proofs.SameRows.{map_at, map_more, map_length}
+use Rattle.monomials.proofs.SameRows.{map_at}
 use Rattle.monomials.proofs.order.same_rows.Goals as goal
 
 pub returns-then-not-same : goal.returns-then-not-same

@@ -1,8 +1,7 @@
-use Rattle.std.proofs.Common.{◌≡◌, ◌+◌, ◌-◌, ◌≤◌, ◌<◌, ◌∙◌, ℕ, Bool, All, length, ap, subst, arith}
+use Rattle.std.proofs.Common.{◌≡◌, ◌+◌, ◌-◌, ◌≤◌, ◌∙◌, ℕ, Bool, length, ap, arith}
 use Rattle.std.proofs.lemmas.Result.{on_ok_weaker}
-use Rattle.monomials.specs.Blocks.{block_len, block_rows, last_first, first_first, weights_row, IsPart, HasWeights}
-use Rattle.monomials.specs.Rows.{AddsRows}
-use Rattle.monomials.specs.declared.order.Block.TheVariants.{Extra, Lex, DegRev, DegLex, WeightRev, WeightLex}
+use Rattle.monomials.specs.Blocks.{last_first, first_first, weights_row, IsPart}
+use Rattle.monomials.specs.declared.order.Block.TheVariants.{Extra, DegRev, WeightRev}
 use Rattle.monomials.proofs.AddedRows.{adds_one, adds_first, adds_first_of}
 use Rattle.monomials.proofs.order.Block.push_rows.Goals as goal
 

@@ -1,5 +1,5 @@
-use Rattle.std.proofs.Common.{◌≡◌, ◌∙◌, ◌+◌, ◌-◌, ◌≤◌, ◌<◌, ℕ, List, Bool, ◌&&◌, get_or, ap, arith, rules, subst}
-use Rattle.monomials.specs.Blocks.{order_of, block_len, block_rows, is_extra, IsPart, Covers, AreWeighted}
+use Rattle.std.proofs.Common.{◌≡◌, ◌∙◌, ◌+◌, ◌-◌, ◌≤◌, ℕ, List, ◌&&◌, get_or, ap, arith, rules, subst}
+use Rattle.monomials.specs.Blocks.{block_len, block_rows, is_extra, IsPart, Covers, AreWeighted}
 use Rattle.monomials.specs.Rows.{AddsRows}
 use Rattle.monomials.specs.declared.order.Block.{Block}
 use Rattle.monomials.proofs.Covering.{covers_here, covers_next}

@@ -1,4 +1,4 @@
-use Rattle.std.proofs.Common.{◌≡◌, ◌↔◌, ◌∙◌, sym, ap, map}
+use Rattle.std.proofs.Common.{◌∙◌, sym, ap, map}
 use Rattle.monomials.specs.Rows.{row_entries}
 use Rattle.monomials.proofs.SameRows.{orders_same}
 use Rattle.monomials.proofs.order.Order.same.Goals as goal

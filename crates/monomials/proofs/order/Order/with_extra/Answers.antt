@@ -1,10 +1,9 @@
-use Rattle.std.proofs.Common.{◌≡◌, ◌≤◌, ◌∙◌, ◌∷◌, ◌++◌, [], ℕ, List, ap, sym, arith, pos, map, length}
+use Rattle.std.proofs.Common.{◌≡◌, ◌≤◌, ◌∙◌, ◌∷◌, ◌++◌, [], List, ap, sym, arith, pos, map}
 use Rattle.std.proofs.lemmas.List.Elements.{All-weaker}
 use Rattle.monomials.specs.Orders.{RowOrder}
 use Rattle.monomials.specs.ExtraRows.{marks, with_rows}
-use Rattle.monomials.specs.Rows.{row_entries, kept_order}
+use Rattle.monomials.specs.Rows.{row_entries}
 use Rattle.monomials.specs.declared.row.Row.{Row}
-use Rattle.monomials.specs.declared.order.Order.TheInside.{Inside}
 use Rattle.monomials.proofs.ExtraRow.{kept_with_row, with_row_kept}
 use Rattle.monomials.proofs.order.Order.with_extra.Goals as goal
 

@@ -1,4 +1,4 @@
-use Rattle.std.proofs.Common.{◌≡◌, ◌<◌, ◌+◌, ◌∙◌, ℕ, length, map, take, get_or, ap, subst, pos, arith}
+use Rattle.std.proofs.Common.{◌+◌, ◌∙◌, map, ap, pos, arith}
 use Rattle.std.proofs.lemmas.List.{take_all}
 use Rattle.monomials.specs.ExtraRows.{mark}
 use Rattle.monomials.proofs.Placing.{marks_are}

@@ -1,8 +1,8 @@
-use Rattle.std.proofs.Common.{◌≡◌, ◌↔◌, ◌∙◌, sym, true, false}
+use Rattle.std.proofs.Common.{◌≡◌, ◌∙◌, sym, true, false}
 use Rattle.std.specs.Cmp.{booleans_Decides}
 use Rattle.std.proofs.lemmas.Bool.Decides.{Decides-eqb}
 use Rattle.std.proofs.lemmas.Slice.Eq.{slice_eq-Decides}
-use Rattle.monomials.specs.Rows.{row_entries, falls}
+use Rattle.monomials.specs.Rows.{falls}
 use Rattle.monomials.proofs.SameRows.{falls_same, entries_same}
 use Rattle.monomials.proofs.row.Row.same.Goals as goal
 

@@ -1,4 +1,4 @@
-use Rattle.std.proofs.Common.{◌≡◌, ◌<◌, ◌∙◌, length, arith}
+use Rattle.std.proofs.Common.{arith}
 use Rattle.monomials.proofs.Placing.{placed}
 use Rattle.monomials.proofs.row.Row.weighted_in.Goals as goal
 

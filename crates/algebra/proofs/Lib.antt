@@ -7,3 +7,7 @@ mod Testing
 mod OverlapSums
 mod Letterwise
 mod Commuting
+pub mod Fitting
+pub mod SortedAnew
+pub mod OrderFaults
+pub mod SortedRelations

@@ -15,9 +15,11 @@ use prime_field::Field;
 use std::alloc::{AllocError, Global};
 use std::marker::Model;
 
+mod comparing;
 mod conditions;
 mod presentation;
 mod product;
+mod reordering;
 mod rewriting;
 mod word;
 

@@ -1,10 +1,11 @@
 //! The relations of an algebra, with its field and its order.
 
-ghost use Rattle.std.specs.Prelude.{◌≡◌, ℕ, ◌+◌, ◌-◌, ◌*◌, ◌/◌, ◌<◌, ◌≤◌, IfOk, [], length, replicate};
+ghost use Rattle.std.specs.Prelude.{◌≡◌, ℕ, ◌+◌, ◌-◌, ◌*◌, ◌/◌, ◌<◌, ◌≤◌, ◌↔◌, IsTrue, IfOk, [], length, replicate};
 ghost use Rattle.monomials.specs.Polynomials.{Each, HasNumbers, IsPolynomial};
 ghost use Rattle.prime_field.specs.Modular.{IsPrime};
 ghost use Rattle.word_model.specs.Words.{c_of, d_of, pair_index};
 ghost use Rattle.word_model.specs.Conditions.{IsAlgebraData};
+ghost use Rattle.algebra.specs.Reordered.{reordered};
 
 use crate::Relations;
 use gpoly::GPoly;
@@ -66,6 +67,35 @@ impl Presentation {
         Presentation { field, order, c, d }
     }
 
+    /// The same relations, with their polynomials sorted by another order of the variables.
+    pub(crate) fn reordered(&self, alloc: Global, order: &Order) -> Result<Presentation, AllocError>
+        requires { order.now.vars ≡ self.now.order.vars }
+        ensures { IfOk result (λ a. a ≡ reordered order.now self.now) }
+    {
+        let field = self.field();
+        let c = Vec::from_slice(alloc, &self.c)?;
+        let mut d = Vec::new(alloc);
+        for poly in &self.d {
+            d.push(poly.reorder(alloc, order)?)?;
+        }
+        Ok(Presentation {
+            field,
+            order: order.copy(alloc)?,
+            c,
+            d,
+        })
+    }
+
+    /// Whether field, order and relations are the same.
+    pub(crate) fn same(&self, other: &Presentation) -> bool
+        ensures { IsTrue result ↔ (self.now ≡ other.now) }
+    {
+        self.field.p() == other.field.p()
+            && self.order.same(&other.order)
+            && self.c == other.c
+            && same_polynomials(&self.d, &other.d)
+    }
+
     pub(crate) fn field(&self) -> Field
         ensures value { result ≡ self.now.p }
         ensures prime { IsPrime self.now.p }
@@ -125,4 +155,19 @@ impl Presentation {
         let (i, j) = (usize::from(i), usize::from(j));
         (i - 1) * (2 * n - i) / 2 + (j - i - 1)
     }
+}
+
+// Whether the lists have the same polynomials.
+fn same_polynomials(d: &[GPoly], e: &[GPoly]) -> bool
+    ensures { IsTrue result ↔ (d.now ≡ e.now) }
+{
+    if d.len() != e.len() {
+        return false;
+    }
+    for i in 0..d.len() {
+        if !d[i].equals(&e[i]) {
+            return false;
+        }
+    }
+    true
 }

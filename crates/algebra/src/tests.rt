@@ -10,11 +10,15 @@ use gpoly::Term;
 use monomials::{Block, Expo};
 use std::test::Fail;
 
-// The order dp in three variables.
-fn order(alloc: Global) -> Result<Order, Fail>
+// The order lp or dp in three variables.
+fn order(alloc: Global, name: &str) -> Result<Order, Fail>
     ensures { IfOk result (λ o. o.vars ≡ 3) }
 {
-    let order = Order::new(alloc, &[Block::DegRev { len: 3 }], 3)?;
+    let block = match name {
+        "lp" => Block::Lex { len: 3 },
+        _ => Block::DegRev { len: 3 },
+    };
+    let order = Order::new(alloc, &[block], 3)?;
     Ok(order)
 }
 
@@ -66,10 +70,13 @@ fn three(text: &str) -> Result<[u64; 3], Fail> {
 fn algebra(
     alloc: Global,
     field: Field,
+    name: &str,
     c: &str,
     d: [&str; 3],
-) -> Result<Result<Algebra, AlgebraFault>, Fail> {
-    let order = order(alloc)?;
+) -> Result<Result<Algebra, AlgebraFault>, Fail>
+    ensures { IfOk result (λ made. IfOk made (λ a. a.order.vars ≡ 3)) }
+{
+    let order = order(alloc, name)?;
     let [c_12, c_13, c_23] = three(c)?;
     let [d_12, d_13, d_23] = d;
     let d_12 = poly(alloc, field, &order, d_12)?;
@@ -104,7 +111,7 @@ fn multiplies(rt: HostRuntime) -> Result<(), Fail> {
         let [c, d_12, d_13, d_23, f, g, want] = fields.as_slice() else {
             return Err("a row has seven fields".into());
         };
-        let algebra = algebra(alloc, field, c, [d_12, d_13, d_23])??;
+        let algebra = algebra(alloc, field, "dp", c, [d_12, d_13, d_23])??;
         assert_eq!(rt; algebra.n(), 3);
         let (field, order) = (algebra.field(), algebra.order());
         let f = poly(alloc, field, order, f)?;
@@ -116,15 +123,18 @@ fn multiplies(rt: HostRuntime) -> Result<(), Fail> {
     Ok(())
 }
 
-// The numbers and polynomials of the pairs over the field with 7 elements, and the first fault.
+// An order, the numbers and polynomials of the pairs over the field with 7 elements, and the first fault.
 const FAULTS: &str = "\
-1 1 1|1:001|0:000|1:010|NonDegeneracy 1 2 3 1:001
-1 1 0|1:001|0:000|1:010|Coefficient 2 3
-1 1 0|1:200|0:000|0:000|Ordering 1 2
-1 1 0|0:000|1:030|0:000|Profile 1 3
-0 1 1|1:030|0:000|0:000|Coefficient 1 2
-1 1 1|0:000|0:000|0:000|none
-2 3 4|0:000|0:000|0:000|none";
+dp|1 1 1|1:001|0:000|1:010|NonDegeneracy 1 2 3 1:001
+dp|1 1 0|1:001|0:000|1:010|Coefficient 2 3
+dp|1 1 1|1:200|0:000|0:000|Ordering 1 2
+dp|1 1 0|1:200|0:000|0:000|Ordering 1 2
+dp|1 1 0|0:000|1:030|0:000|Profile 1 3
+lp|1 1 1|1:030|0:000|0:000|Profile 1 2
+lp|1 1 1|1:020|0:000|0:000|none
+dp|0 1 1|1:030|0:000|0:000|Coefficient 1 2
+dp|1 1 1|0:000|0:000|0:000|none
+dp|2 3 4|0:000|0:000|0:000|none";
 
 // A fault's name, the numbers of its variables, and its rest, which is one term here.
 fn fault_text(alloc: Global, fault: &AlgebraFault) -> Result<String, AllocError> {
@@ -152,10 +162,10 @@ fn refuses_the_first_fault(rt: HostRuntime) -> Result<(), Fail> {
     let field = Field::of(7)?;
     for row in FAULTS.lines() {
         let fields: Vec<&str> = row.split('|').collect(alloc)?;
-        let [c, d_12, d_13, d_23, want] = fields.as_slice() else {
-            return Err("a row has five fields".into());
+        let [name, c, d_12, d_13, d_23, want] = fields.as_slice() else {
+            return Err("a row has six fields".into());
         };
-        let got = match algebra(alloc, field, c, [d_12, d_13, d_23])? {
+        let got = match algebra(alloc, field, name, c, [d_12, d_13, d_23])? {
             Ok(_) => String::from_str(alloc, "none")?,
             Err(fault) => fault_text(alloc, &fault)?,
         };
@@ -168,7 +178,7 @@ fn refuses_the_first_fault(rt: HostRuntime) -> Result<(), Fail> {
 fn reads_and_bounds(rt: HostRuntime) -> Result<(), Fail> {
     let alloc = rt.alloc();
     let field = Field::of(7)?;
-    let ring = Algebra::commuting(alloc, field, order(alloc)?, 3)?;
+    let ring = Algebra::commuting(alloc, field, order(alloc, "dp")?, 3)?;
     assert_eq!(rt; ring.n(), 3);
     assert_eq!(rt; ring.field(), field);
     assert_eq!(rt; ring.order().vars(), 3);
@@ -182,5 +192,44 @@ fn reads_and_bounds(rt: HostRuntime) -> Result<(), Fail> {
             Err(fault) => assert!(rt; !fits && matches!(fault, ProductFault::DegreeOver)),
         }
     }
+    Ok(())
+}
+
+#[test]
+fn sorts_relations_anew(rt: HostRuntime) -> Result<(), Fail> {
+    let alloc = rt.alloc();
+    let field = Field::of(32003)?;
+    let sl2 = algebra(
+        alloc,
+        field,
+        "dp",
+        "1 1 1",
+        ["32002:001", "2:100", "32001:010"],
+    )??;
+    let h_first = order(alloc, "dp")?.with_extra(alloc, &[3])?;
+    let fault = sl2.reordered(alloc, &h_first);
+    assert!(rt; matches!(fault, Err(AlgebraFault::Ordering { i: 1, j: 2 })));
+    let by_lp = sl2.reordered(alloc, &order(alloc, "lp")?)?;
+    assert!(rt; !by_lp.same(&sl2));
+    assert!(rt; by_lp.reordered(alloc, &order(alloc, "dp")?)?.same(&sl2));
+    let ring = Algebra::commuting(alloc, field, order(alloc, "dp")?, 3)?;
+    let t_first = order(alloc, "dp")?.with_extra(alloc, &[1])?;
+    assert!(rt; ring.reordered(alloc, &t_first).is_ok());
+    Ok(())
+}
+
+#[test]
+fn polynomials_fit(rt: HostRuntime) -> Result<(), Fail> {
+    let alloc = rt.alloc();
+    let (seven, large) = (Field::of(7)?, Field::of(32003)?);
+    let by_dp = Algebra::commuting(alloc, seven, order(alloc, "dp")?, 3)?;
+    let by_lp = Algebra::commuting(alloc, seven, order(alloc, "lp")?, 3)?;
+    let f = poly(alloc, large, &order(alloc, "dp")?, "6:100 3:020")?;
+    assert!(rt; by_dp.fits(&f) && !by_lp.fits(&f));
+    let g = poly(alloc, large, &order(alloc, "dp")?, "7:100")?;
+    assert!(rt; !by_dp.fits(&g));
+    let two = Order::new(alloc, &[Block::Lex { len: 2 }], 2)?;
+    let plane = Algebra::commuting(alloc, seven, two, 2)?;
+    assert!(rt; !plane.fits(&f) && plane.fits(&GPoly::zero(alloc)));
     Ok(())
 }

@@ -3,3 +3,4 @@ pub mod TermLists
 pub mod Sorting
 pub mod Multiples
 pub mod Merging
+pub mod Reordering

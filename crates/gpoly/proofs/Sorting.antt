@@ -51,7 +51,7 @@ rank_cmp-other order a b Equal e h =
 
 module _ (rows : List (List ℤ)) (p : ℕ) where
   -- a key that is not below the first, and another, is above it
-  above_first : (k : Monomial) (t : ℕ × Monomial) → order_cmp rows k t.1 ≢ Less → t.1 ≢ k → order_cmp rows k t.1 ≡ Greater
+  pub above_first : (k : Monomial) (t : ℕ × Monomial) → order_cmp rows k t.1 ≢ Less → t.1 ≢ k → order_cmp rows k t.1 ≡ Greater
   above_first k t not_less other = by (order_cmp rows k t.1) not_less (λ e. other (sym (order_cmp_tied rows k t.1 e)))
     where
       by : (o : Ordering) → o ≢ Less → o ≢ Equal → o ≡ Greater

@@ -163,6 +163,21 @@ impl GPoly {
         Ok(GPoly { terms })
     }
 
+    /// The same polynomial, sorted by another order of its variables.
+    pub fn reorder(&self, alloc: Global, order: &Order) -> Result<GPoly, AllocError>
+        requires { HasVars order.now.vars self.now }
+        ensures value { IfOk result (λ r. (p : ℕ) → HasNumbers p self.now →
+            r ≡ from_terms (order_cmp order.now.rows) p self.now) }
+        ensures sorted { IfOk result (λ r. (p : ℕ) → HasNumbers p self.now →
+            IsPolynomial p order.now r) }
+        ensures numbers { IfOk result (λ r. (p : ℕ) → HasNumbers p self.now → HasNumbers p r) }
+        ensures map { IfOk result (λ r. (m : Monomial) →
+            coefficient_at m r ≡ coefficient_at m self.now) }
+    {
+        let terms = sums::falling_terms(alloc, order, &self.terms)?;
+        Ok(GPoly { terms })
+    }
+
     /// The first term, which has the greatest monomial where the polynomial is sorted. There is none
     /// in the zero polynomial.
     pub fn leading(&self) -> Option<&Term>

@@ -1,6 +1,7 @@
 //! Sums of terms that were sorted.
 
 ghost use Rattle.std.specs.Prelude.{◌≡◌, ◌<◌, IfOk, OnOk, List, reverse, ℤ};
+ghost use Rattle.std.specs.List.Sorted.{IsPermutation};
 ghost use Rattle.monomials.specs.Orders.{order_cmp};
 ghost use Rattle.monomials.specs.Polynomials.{HasNumbers, HasVars, insert_term, from_terms};
 ghost use Rattle.gpoly.specs.Terms.{pairs_of};
@@ -25,11 +26,34 @@ pub fn summed(
         ≡ from_terms (order_cmp order.now.rows) field (pairs_of terms.now)) }
 {
     let _p = field.p();
-    let mut rising = Vec::from_slice(alloc, terms)?;
-    rising.sort_by(|a, b| rank(order, &a.mono, &b.mono))?;
+    let rising = rising_terms(alloc, order, terms)?;
     let mut sums = rising_sums(alloc, field, &rising)?;
     sums.reverse();
     Ok(sums)
+}
+
+// The terms with the greatest monomial first.
+pub fn falling_terms(alloc: Global, order: &Order, terms: &[Term]) -> Result<Vec<Term>, AllocError>
+    requires { HasVars order.now.vars (pairs_of terms.now) }
+    ensures moved { IfOk result (λ falling. IsPermutation (pairs_of terms.now) (pairs_of falling.items)) }
+    ensures falls { IfOk result (λ falling.
+        IsFalling (order_cmp order.now.rows) (pairs_of falling.items)) }
+{
+    let mut falling = rising_terms(alloc, order, terms)?;
+    falling.reverse();
+    Ok(falling)
+}
+
+// The terms with the least monomial first.
+fn rising_terms(alloc: Global, order: &Order, terms: &[Term]) -> Result<Vec<Term>, AllocError>
+    requires { HasVars order.now.vars (pairs_of terms.now) }
+    ensures moved { IfOk result (λ rising. IsPermutation terms.now rising.items) }
+    ensures rises { IfOk result (λ rising.
+        IsFalling (order_cmp order.now.rows) (reverse (pairs_of rising.items))) }
+{
+    let mut rising = Vec::from_slice(alloc, terms)?;
+    rising.sort_by(|a, b| rank(order, &a.mono, &b.mono))?;
+    Ok(rising)
 }
 
 // The order, extended to monomials in other numbers of variables, so that a sort may compare any two.

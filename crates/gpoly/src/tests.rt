@@ -137,3 +137,18 @@ fn makes_monic(rt: HostRuntime) -> Result<(), Fail> {
     assert_eq!(rt; scale, 4);
     Ok(())
 }
+
+#[test]
+fn sorts_by_another_order(rt: HostRuntime) -> Result<(), Fail> {
+    let alloc = rt.alloc();
+    let field = Field::of(7)?;
+    let dp = Order::new(alloc, &[Block::DegRev { len: 2 }], 2)?;
+    let lp = Order::new(alloc, &[Block::Lex { len: 2 }], 2)?;
+    let given = terms_of(alloc, field, &[(2, 0, 3), (3, 1, 0), (1, 1, 1)])?;
+    let want = terms_of(alloc, field, &[(1, 1, 1), (3, 1, 0), (2, 0, 3)])?;
+    let f = GPoly::from_terms(alloc, field, &dp, &given)?;
+    let sorted = f.reorder(alloc, &lp)?;
+    assert_eq!(rt; sorted.terms(), want.as_slice());
+    assert!(rt; sorted.reorder(alloc, &dp)?.equals(&f));
+    Ok(())
+}

@@ -3,11 +3,12 @@ use Rattle.std.proofs.Common.{◌≡◌, ℕ, zero, suc, ◌+◌, ◌-◌, ◌�
 use Rattle.std.specs.List.{All}
 use Rattle.std.proofs.lemmas.List.{map_push, append_assoc, append-nil, take-replicate, drop-replicate, drop_more, drop_all}
 use Rattle.std.proofs.lemmas.List.Elements.{All-push, All-nil}
-use Rattle.monomials.specs.Blocks.{row_of, last_first, block_len, block_rows, blocks_rows}
+use Rattle.monomials.specs.Blocks.{row_of, first_first, last_first, block_len, block_rows, blocks_rows}
 use Rattle.monomials.specs.Rows.{row_entries, IsWithin, AddsRows}
 use Rattle.monomials.specs.declared.order.Block.{Block}
 use Rattle.monomials.specs.declared.row.Row.{Row}
-use Rattle.monomials.specs.declared.row.Row.TheVariants.{Falling}
+use Rattle.monomials.specs.declared.row.Row.TheVariants.{Rising, Falling}
+use Rattle.monomials.proofs.GradedRows.{map-replicate}
 
 -- the new rows are the old ones with the front of `all` behind them, and `rest` is still to come
 pub record AddsUpTo (n : ℕ) (old new : List Row) (rest all : List (List ℤ)) : Type 0 where
@@ -32,12 +33,19 @@ module _ (n : ℕ) (old new : List Row) (all : List (List ℤ)) where
   }
 
   -- one more of the negative unit rows behind `at`
-  pub adds_falling : (newer : List Row) (at place k q : ℕ) → AddsUpTo n old new (last_first n (at + 1) k) all → k ≡ suc q →
-      place ≡ at + k → at + k < n → newer ≡ new ++ Falling place ∷ [] → AddsUpTo n old newer (last_first n (at + 1) q) all
+  pub adds_falling : (newer : List Row) (at place k q : ℕ) → AddsUpTo n old new (last_first n at k) all → k ≡ suc q →
+      place ≡ at + q → at + q < n → newer ≡ new ++ Falling place ∷ [] → AddsUpTo n old newer (last_first n at q) all
   adds_falling newer at place k q h step is inside e =
-      let p : place ≡ at + 1 + q = omega arith in
-      adds_push newer (Falling place) (row_of (negsuc 0) n (at + 1 + q) 1) (last_first n (at + 1) q) (rw step at h) e
-      (ap (λ x. row_of (negsuc 0) n x 1) p) (omega arith)
+      adds_push newer (Falling place) (row_of (negsuc 0) n (at + q) 1) (last_first n at q) (rw step at h) e
+      (ap (λ x. row_of (negsuc 0) n x 1) is) (omega arith)
+
+  -- one more of the unit rows from `at` on
+  pub adds_rising : (newer : List Row) (at next place left q : ℕ) → AddsUpTo n old new (first_first n at left) all → left ≡ suc q →
+      place ≡ at → next ≡ at + 1 → at < n → newer ≡ new ++ Rising place ∷ [] → AddsUpTo n old newer (first_first n next q) all
+  adds_rising newer at next place left q h step is more inside e =
+      rw more
+      (adds_push newer (Rising place) (row_of (pos 1) n at 1) (first_first n (at + 1) q) (rw step at h) e
+      (ap (λ x. row_of (pos 1) n x 1) is) (omega arith))
 
   -- more rows
   pub adds_more : (newer : List Row) (added rest : List (List ℤ)) → AddsUpTo n old new (added ++ rest) all →
@@ -55,6 +63,29 @@ module _ (n : ℕ) (old new : List Row) (all : List (List ℤ)) where
     within = h.within;
   }
 
+-- one row
+pub adds_one : (n : ℕ) (old new : List Row) (row : Row) (r : List ℤ) → new ≡ old ++ row ∷ [] → row_entries n row ≡ r → IsWithin n row →
+    AddsRows n old new (r ∷ [])
+adds_one n old new row r e is w =
+    adds_all n old new (r ∷ []) (adds_push n old old (r ∷ []) new row r [] (adds_none n old (r ∷ [])) e is w)
+
+-- one row, and then more
+pub adds_first : (n : ℕ) (old mid new : List Row) (row : Row) (r : List ℤ) (rs : List (List ℤ)) → mid ≡ old ++ row ∷ [] → row_entries n row ≡ r →
+    IsWithin n row → AddsRows n mid new rs → AddsRows n old new (r ∷ rs)
+adds_first n old mid new row r rs e is w more =
+    let one : AddsRows n old mid (r ∷ []) = adds_one n old mid row r e is w in
+    record {
+      entries =
+          more.entries
+          ∙ (ap (λ z. z ++ rs) one.entries ∙ append_assoc (map (row_entries n) old) (r ∷ []) rs);
+      within = λ o. more.within (one.within o);
+    }
+
+-- the same, where the number of further rows is told in two ways
+pub adds_first_of : (n : ℕ) (f : ℕ → List (List ℤ)) (k len : ℕ) → k ≡ len → (old mid new : List Row) (row : Row) (r : List ℤ) → mid ≡ old ++ row ∷ [] →
+    row_entries n row ≡ r → IsWithin n row → AddsRows n mid new (f k) → AddsRows n old new (r ∷ f len)
+adds_first_of n f k len same old mid new row r e is w more = rw (← same) (adds_first n old mid new row r (f k) e is w more)
+
 -- zeros with ones written over a part of them
 pub filled : (n at len : ℕ) (ones : List ℕ) → at + len ≤ n → ones ≡ replicate len 1 →
     take at (replicate n 0) ++ (ones ++ drop (at + len - at) (drop at (replicate n 0)))
@@ -65,10 +96,6 @@ filled n at len ones fits is =
     let back : drop {A = ℕ} (at + len - at) (drop at (replicate n 0)) ≡ replicate (n - at - len) 0 =
     rw (e, drop-replicate {X = ℕ} at n 0) (drop-replicate len (n - at) 0) in
     rw (front, is, back)
-
-map-replicate : (f : ℕ → ℤ) (n x : ℕ) → map f (replicate n x) ≡ replicate n (f x)
-map-replicate f zero x = refl
-map-replicate f (suc n) x = ap (λ z. f x ∷ z) (map-replicate f n x)
 
 -- the entries of weights that are 1 at a range of variables
 pub entries-ones : (n at len m : ℕ) → at + len ≤ n → n - (at + len) ≤ m →

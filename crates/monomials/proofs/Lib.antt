@@ -9,6 +9,12 @@ pub mod Coefficients
 pub mod Operations
 pub mod Exponents
 pub mod RowValues
+pub mod GradedRows
+pub mod Placing
+pub mod SameRows
 pub mod Covering
 pub mod AddedRows
 pub mod Separation
+pub mod LexicographicOrders
+pub mod WellFoundedness
+pub mod ExtraRow

@@ -10,7 +10,7 @@ use Rattle.std.proofs.lemmas.List.{length-replicate, get_or_past, get_or-drop}
 use Rattle.std.proofs.lemmas.List.Sums.{sum_by-cons, sum_by-take-drop, sum_by_more, sum_by_more_le}
 use Rattle.monomials.specs.Monomials.{zip_with}
 use Rattle.monomials.specs.Orders.{row_value}
-use Rattle.monomials.specs.Blocks.{row_of}
+use Rattle.monomials.specs.Blocks.{row_of, weights_row}
 use Rattle.monomials.specs.Rows.{weighted}
 use Rattle.monomials.specs.Padded.{IsPadded, exponents, zeros}
 use Rattle.monomials.specs.declared.expo.Expo.TheInside.{Inside}
@@ -76,6 +76,20 @@ sum-take_one (suc k) (x ∷ m) = sum-take_one k m
 pub row_value-unit : (z : ℤ) (n k : ℕ) (m : List ℕ) → row_value (row_of z n k 1) m ≡ z *ℤ pos (get_or m k 0)
 row_value-unit z n k m = row_value-row_of z n k 1 m ∙ ap (λ x. z *ℤ pos x) (sum-take_one k m)
 
+-- a row of weights at the variables behind the first `at`
+pub row_value-weights_row : (n at : ℕ) (ws m : List ℕ) → row_value (weights_row n at ws) m ≡ pos (weighted ws (drop at m))
+row_value-weights_row n at ws m =
+    let back : List ℤ = replicate (n - (at + length ws)) (pos 0) in
+    let front : ℤ = row_value (replicate at (pos 0)) m in
+    let rest : List ℕ = drop at m in
+    row_value-append (replicate at (pos 0)) (map pos ws ++ back) m
+    ∙ (ap (λ k. front +ℤ row_value (map pos ws ++ back) (drop k m)) (length-replicate at (pos 0))
+    ∙ (ap (λ x. x +ℤ row_value (map pos ws ++ back) rest) (row_value-zeros at m)
+    ∙ (+ℤ_idl (row_value (map pos ws ++ back) rest)
+    ∙ (row_value-append (map pos ws) back rest
+    ∙ (ap (λ x. row_value (map pos ws) rest +ℤ x) (row_value-zeros (n - (at + length ws)) (drop (length (map pos ws)) rest))
+    ∙ (+ℤ_idr (row_value (map pos ws) rest) ∙ row_value-map_pos ws rest))))))
+
 -- whole numbers compare as integers do
 pub int_cmp-pos : (x y : ℕ) → int_cmp (pos x) (pos y) ≡ nat_cmp x y
 int_cmp-pos x y = grind (arith, ints, nat_tests)
@@ -90,9 +104,25 @@ int_cmp-neg x y = grind (arith, ints, nat_tests)
 pub int_cmp-minus : (x y : ℕ) → int_cmp (negsuc 0 *ℤ pos x) (negsuc 0 *ℤ pos y) ≡ nat_cmp y x
 int_cmp-minus x y = rw (minus_one x, minus_one y) (int_cmp-neg x y)
 
--- how a row of weights, and one that falls, compare two monomials
+-- how rows of weights, and rows of one entry, compare two monomials
 pub compare_weights : (ws a b : List ℕ) → int_cmp (row_value (map pos ws) a) (row_value (map pos ws) b) ≡ nat_cmp (weighted ws a) (weighted ws b)
 compare_weights ws a b = rw (row_value-map_pos ws a, row_value-map_pos ws b) (int_cmp-pos (weighted ws a) (weighted ws b))
+
+pub compare_weights_row : (n at : ℕ) (ws a b : List ℕ) →
+    int_cmp (row_value (weights_row n at ws) a) (row_value (weights_row n at ws) b)
+    ≡ nat_cmp (weighted ws (drop at a)) (weighted ws (drop at b))
+compare_weights_row n at ws a b =
+    rw (row_value-weights_row n at ws a, row_value-weights_row n at ws b) (int_cmp-pos (weighted ws (drop at a)) (weighted ws (drop at b)))
+
+once : (x : ℕ) → pos 1 *ℤ pos x ≡ pos x
+once x = ap pos (omega arith)
+
+pub compare_rising : (n k : ℕ) (a b : List ℕ) →
+    int_cmp (row_value (row_of (pos 1) n k 1) a) (row_value (row_of (pos 1) n k 1) b) ≡ nat_cmp (get_or a k 0) (get_or b k 0)
+compare_rising n k a b =
+    let left : row_value (row_of (pos 1) n k 1) a ≡ pos (get_or a k 0) = row_value-unit (pos 1) n k a ∙ once (get_or a k 0) in
+    let right : row_value (row_of (pos 1) n k 1) b ≡ pos (get_or b k 0) = row_value-unit (pos 1) n k b ∙ once (get_or b k 0) in
+    rw (left, right) (int_cmp-pos (get_or a k 0) (get_or b k 0))
 
 pub compare_falling : (n k : ℕ) (a b : List ℕ) →
     int_cmp (row_value (row_of (negsuc 0) n k 1) a) (row_value (row_of (negsuc 0) n k 1) b) ≡ nat_cmp (get_or b k 0) (get_or a k 0)

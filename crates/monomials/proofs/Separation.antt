@@ -1,27 +1,26 @@
 -- The rows of blocks that cover the variables tell all monomials apart.
-use Rattle.std.proofs.Common.{◌≡◌, ℕ, zero, suc, ◌+◌, ◌-◌, ◌*◌, ◌≤◌, ◌<◌, List, [], ◌∷◌, ◌++◌, length, map, sum, take, drop, get_or, arith, refl, sym, ◌∙◌, ap, inl, inr, ℤ, pos, negsuc}
+use Rattle.std.proofs.Common.{◌≡◌, ℕ, ◌+◌, ◌-◌, ◌≤◌, ◌<◌, Bool, true, List, [], ◌∷◌, ◌++◌, length, map, sum, replicate, get_or, arith, refl, sym, ◌∙◌, ap, inl, inr, ℤ, pos, negsuc, ◌&&◌, All}
 use Rattle.std.specs.Ordering.{nat_cmp, int_cmp, ordering_then}
 use Rattle.std.specs.Cmp.Lexicographic.{slice_cmp}
 use Rattle.std.specs.declared.cmp.Ordering.{Ordering}
 use Rattle.std.specs.declared.cmp.Ordering.TheVariants.{Less, Equal, Greater}
 use Rattle.std.proofs.lemmas.Bool.{cases_lt}
-use Rattle.std.proofs.lemmas.Bool.Decides.{nat_tests}
 use Rattle.std.proofs.lemmas.Cmp.{tied_itself, nat_list_cmp_total}
-use Rattle.std.proofs.lemmas.List.{ext_get_or, get_or-take, get_or-drop, length-take-le, length-drop, get_or_past}
+use Rattle.std.proofs.lemmas.List.{ext_get_or, length-replicate}
+use Rattle.std.proofs.lemmas.List.Elements.{All-get_or, All-head, All-tail}
 use Rattle.std.proofs.lemmas.List.Sums.{sum_by-cons}
+use Rattle.monomials.specs.Monomials.{Monomial}
 use Rattle.monomials.specs.Orders.{RowOrder, row_value, rows_cmp, order_cmp}
-use Rattle.monomials.specs.Blocks.{row_of, last_first, dp_rows, block_len, block_rows, blocks_rows, order_of, NoneEmpty, Covers}
+use Rattle.monomials.specs.Blocks.{row_of, last_first, block_len, block_rows, blocks_rows, order_of, is_extra, IsPart, AreParts, IsWeight, HasWeights, AreWeighted, Covers}
 use Rattle.monomials.specs.Separating.{IsSeparating}
+use Rattle.monomials.specs.ExtraRows.{with_rows}
 use Rattle.monomials.specs.declared.order.Block.{Block}
-use Rattle.monomials.specs.declared.order.Block.TheVariants.{DegRev}
-use Rattle.monomials.proofs.RowValues.{row_value-row_of, compare_falling, int_cmp-pos}
+use Rattle.monomials.specs.declared.order.Block.TheVariants.{Extra, Lex, DegRev, DegLex, WeightRev, WeightLex}
+use Rattle.monomials.proofs.GradedRows.{IsPositive, rising_equal, graded_rising_equal, graded_falling_equal, ones_row, ones_positive}
 
 -- the rows of `dp` in two variables
 pub dp_two : (order_of 2 (DegRev 2 ∷ [])).rows ≡ (pos 1 ∷ pos 1 ∷ []) ∷ (pos 0 ∷ negsuc 0 ∷ []) ∷ []
 dp_two = refl
-
-nat_cmp_equal : (x y : ℕ) → nat_cmp x y ≡ Equal → x ≡ y
-nat_cmp_equal x y e = grind (arith, nat_tests)
 
 then_equal : (o p : Ordering) → ordering_then o p ≡ Equal → (o ≡ Equal) × (p ≡ Equal)
 then_equal Less p e = cc
@@ -33,17 +32,11 @@ then_tied Less p h = refl
 then_tied Equal p h = h refl
 then_tied Greater p h = refl
 
--- lists with equal sums that agree behind their first elements
-first_same : (xs ys : List ℕ) → length xs ≡ length ys → sum xs ≡ sum ys → ((k : ℕ) → 0 < k → get_or xs k 0 ≡ get_or ys k 0) →
-    get_or xs 0 0 ≡ get_or ys 0 0
-first_same [] [] l s h = refl
-first_same [] (y ∷ ys) l s h = absurd (omega arith)
-first_same (x ∷ xs) [] l s h = absurd (omega arith)
-first_same (x ∷ xs) (y ∷ ys) l s h =
-    let t : xs ≡ ys = ext_get_or 0 xs ys (omega arith) (λ k b. h (suc k) (omega arith)) in
-    omega (arith, sum_by-cons (λ x. x) x xs, sum_by-cons (λ x. x) y ys, ap sum t)
+-- weights of a block are positive
+pub weights_positive : (ws : List ℕ) → All IsWeight ws → IsPositive ws
+weights_positive ws h k l = (All-get_or IsWeight ws k 0 l h).0
 
-module _ (n : ℕ) (a b : List ℕ) (la : length a ≡ n) (lb : length b ≡ n) where
+module _ (n : ℕ) (a b : Monomial) where
   append_equal : (rs ss : List (List ℤ)) → rows_cmp (rs ++ ss) a b ≡ Equal → (rows_cmp rs a b ≡ Equal) × (rows_cmp ss a b ≡ Equal)
   append_equal [] ss e = (refl, e)
   append_equal (r ∷ rs) ss e =
@@ -52,89 +45,53 @@ module _ (n : ℕ) (a b : List ℕ) (la : length a ≡ n) (lb : length b ≡ n) 
       let q : (rows_cmp rs a b ≡ Equal) × (rows_cmp ss a b ≡ Equal) = append_equal rs ss p.1 in
       (ap (λ o. ordering_then o (rows_cmp rs a b)) p.0 ∙ q.0, q.1)
 
-  -- a row of ones gives equal sums
-  sums_equal : (at len : ℕ) → int_cmp (row_value (row_of (pos 1) n at len) a) (row_value (row_of (pos 1) n at len) b) ≡ Equal →
-      sum (take len (drop at a)) ≡ sum (take len (drop at b))
-  sums_equal at len e =
-      let x : ℕ = sum (take len (drop at a)) in
-      let y : ℕ = sum (take len (drop at b)) in
-      let left : row_value (row_of (pos 1) n at len) a ≡ pos (1 * x) = row_value-row_of (pos 1) n at len a in
-      let right : row_value (row_of (pos 1) n at len) b ≡ pos (1 * y) = row_value-row_of (pos 1) n at len b in
-      omega (arith, nat_cmp_equal (1 * x) (1 * y) (sym (int_cmp-pos (1 * x) (1 * y)) ∙ (rw (left, right) at e)))
+  -- the rows of a block give equal exponents of its variables
+  block_equal : (at : ℕ) (front : Bool) (block : Block) → IsPart n front block → HasWeights block →
+      rows_cmp (block_rows n at block) a b ≡ Equal → (k : ℕ) → at ≤ k → k < at + block_len block → get_or a k 0 ≡ get_or b k 0
+  block_equal at front (Extra weights) part weighted e k low high = absurd (omega arith)
+  block_equal at front (Lex len) part weighted e k low high = rising_equal n a b at len e k low high
+  block_equal at front (DegRev len) part weighted e k low high =
+      let l : length {A = ℕ} (replicate len 1) ≡ len = length-replicate len 1 in
+      graded_falling_equal n a b at (replicate len 1) (omega (arith, l, part)) (ones_positive len)
+      (ap (λ q. rows_cmp (q ∷ last_first n (at + 1) (length {A = ℕ} (replicate len 1) - 1)) a b) (sym (ones_row n at len))
+      ∙ (ap (λ q. rows_cmp (row_of (pos 1) n at len ∷ last_first n (at + 1) (q - 1)) a b) l ∙ e)) k low (omega (arith, l))
+  block_equal at front (DegLex len) part weighted e k low high = rising_equal n a b at len (then_equal _ _ e).1 k low high
+  block_equal at front (WeightRev weights) part weighted e k low high =
+      graded_falling_equal n a b at weights.items part (weights_positive weights.items weighted) e k low high
+  block_equal at front (WeightLex weights) part weighted e k low high = graded_rising_equal n a b at weights.items e k low high
 
-  -- negative unit rows give equal exponents
-  last_equal : (at count : ℕ) → rows_cmp (last_first n at count) a b ≡ Equal → (k : ℕ) → at ≤ k → k < at + count →
-      get_or a k 0 ≡ get_or b k 0
-  last_equal at zero e k low high = absurd (omega arith)
-  last_equal at (suc count) e k low high =
-      let r : List ℤ = row_of (negsuc 0) n (at + count) 1 in
-      let p : (int_cmp (row_value r a) (row_value r b) ≡ Equal) × (rows_cmp (last_first n at count) a b ≡ Equal) = then_equal _ _ e in
-      elim (cases_lt k (at + count)) [
-        | inl less ↦ last_equal at count p.1 k low less
-        | inr same ↦
-            let i : at + count ≡ k = omega arith in
-            let here : get_or b (at + count) 0 ≡ get_or a (at + count) 0 =
-            nat_cmp_equal _ _ (sym (compare_falling n (at + count) a b) ∙ p.0) in
-            sym (rw i at here)
-      ]
-
-  -- the rows of `dp` give equal exponents of its variables
-  dp_equal : (at len : ℕ) → 0 < len → at + len ≤ n → rows_cmp (dp_rows n at len) a b ≡ Equal →
-      (k : ℕ) → at ≤ k → k < at + len → get_or a k 0 ≡ get_or b k 0
-  dp_equal at len some fits e k low high =
-      let r : List ℤ = row_of (pos 1) n at len in
-      let p : (int_cmp (row_value r a) (row_value r b) ≡ Equal) × (rows_cmp (last_first n (at + 1) (len - 1)) a b ≡ Equal) =
-      then_equal _ _ e in
-      elim (cases_lt at k) [
-        | inl less ↦ last_equal (at + 1) (len - 1) p.1 k (omega arith) (omega arith)
-        | inr same ↦
-            let i : at + 0 ≡ k = omega arith in
-            let xs : List ℕ = take len (drop at a) in
-            let ys : List ℕ = take len (drop at b) in
-            let lx : length xs ≡ len = length-take-le len (drop at a) (omega (arith, length-drop at a)) in
-            let ly : length ys ≡ len = length-take-le len (drop at b) (omega (arith, length-drop at b)) in
-            let rest : (q : ℕ) → 0 < q → get_or xs q 0 ≡ get_or ys q 0 = λ q qp.
-            elim (cases_lt q len) [
-              | inl in' ↦
-                  get_or-take len (drop at a) q 0 in' ∙ (get_or-drop at a q 0
-                  ∙ (last_equal (at + 1) (len - 1) p.1 (at + q) (omega arith) (omega arith)
-                  ∙ (sym (get_or-drop at b q 0) ∙ sym (get_or-take len (drop at b) q 0 in'))))
-              | inr out ↦ get_or_past xs q 0 (omega arith) ∙ sym (get_or_past ys q 0 (omega arith))
-            ] in
-            let f : get_or xs 0 0 ≡ get_or ys 0 0 = first_same xs ys (lx ∙ sym ly) (sums_equal at len p.0) rest in
-            let fa : get_or xs 0 0 ≡ get_or a (at + 0) 0 = get_or-take len (drop at a) 0 0 some ∙ get_or-drop at a 0 0 in
-            let fb : get_or ys 0 0 ≡ get_or b (at + 0) 0 = get_or-take len (drop at b) 0 0 some ∙ get_or-drop at b 0 0 in
-            rw i at (sym fa ∙ (f ∙ fb))
-      ]
-
-  block_equal : (at : ℕ) (block : Block) → 0 < block_len block → at + block_len block ≤ n → rows_cmp (block_rows n at block) a b ≡ Equal →
-      (k : ℕ) → at ≤ k → k < at + block_len block → get_or a k 0 ≡ get_or b k 0
-  block_equal at (DegRev len) = dp_equal at len
-
-  blocks_equal : (at : ℕ) (blocks : List Block) → NoneEmpty blocks → at + sum (map block_len blocks) ≤ n →
+  blocks_equal : (at : ℕ) (front : Bool) (blocks : List Block) → AreParts n front blocks → AreWeighted blocks →
       rows_cmp (blocks_rows n at blocks) a b ≡ Equal → (k : ℕ) → at ≤ k → k < at + sum (map block_len blocks) →
       get_or a k 0 ≡ get_or b k 0
-  blocks_equal at [] some fits e k low high = absurd (omega arith)
-  blocks_equal at (block ∷ blocks) some fits e k low high =
+  blocks_equal at front [] parts weighted e k low high = absurd (omega arith)
+  blocks_equal at front (block ∷ blocks) parts weighted e k low high =
       let p : (rows_cmp (block_rows n at block) a b ≡ Equal) × (rows_cmp (blocks_rows n (at + block_len block) blocks) a b ≡ Equal) =
       append_equal (block_rows n at block) (blocks_rows n (at + block_len block) blocks) e in
       let s : sum (block_len block ∷ map block_len blocks) ≡ block_len block + sum (map block_len blocks) =
       sum_by-cons (λ x. x) (block_len block) (map block_len blocks) in
       elim (cases_lt k (at + block_len block)) [
-        | inl here ↦ block_equal at block some.0 (omega arith) p.0 k low here
-        | inr later ↦ blocks_equal (at + block_len block) blocks some.1 (omega arith) p.1 k later (omega arith)
+        | inl here ↦ block_equal at front block parts.0 (All-head HasWeights block blocks weighted) p.0 k low here
+        | inr later ↦
+            blocks_equal (at + block_len block) (front && is_extra block) blocks parts.1 (All-tail HasWeights block blocks weighted) p.1 k later
+            (omega arith)
       ]
 
 -- the order of blocks that cover the variables tells monomials apart
-pub separates_order : (n : ℕ) (blocks : List Block) → Covers n blocks → (a b : List ℕ) → length a ≡ n → length b ≡ n →
+pub separates_order : (n : ℕ) (blocks : List Block) → Covers n blocks → AreWeighted blocks → (a b : Monomial) → length a ≡ n → length b ≡ n →
     rows_cmp (order_of n blocks).rows a b ≡ Equal → a ≡ b
-separates_order n blocks h a b la lb e =
+separates_order n blocks h w a b la lb e =
     ext_get_or 0 a b (la ∙ sym lb)
-    (λ k l. blocks_equal n a b la lb 0 blocks h.none_empty (omega (arith, h.all)) e k (omega arith) (omega (arith, h.all)))
+    (λ k l. blocks_equal n a b 0 true blocks h.parts w e k (omega arith) (omega (arith, h.all)))
 
 -- the same as one fact
-pub blocks_separate : (n : ℕ) (blocks : List Block) → Covers n blocks → IsSeparating (order_of n blocks)
-blocks_separate n blocks h = record { same = separates_order n blocks h }
+pub blocks_separate : (n : ℕ) (blocks : List Block) → Covers n blocks → AreWeighted blocks → IsSeparating (order_of n blocks)
+blocks_separate n blocks h w = record { same = separates_order n blocks h w }
+
+-- with more rows in front an order tells apart what it did
+pub separates_with_rows : (extra : List (List ℕ)) (order : RowOrder) → IsSeparating order → IsSeparating (with_rows extra order)
+separates_with_rows extra order h = record {
+  same = λ a b la lb e. h.same a b la lb (append_equal order.vars a b (map (map pos) extra) order.rows e).1;
+}
 
 -- at monomials in the order's variables the rows alone decide
 pub rows_decide : (order : RowOrder) → IsSeparating order → (a b : List ℕ) → length a ≡ order.vars → length b ≡ order.vars →

@@ -4,5 +4,8 @@ pub mod Blocks
 pub mod Polynomials
 pub mod Padded
 pub mod Separating
+pub mod Lexicographic
+pub mod WellFounded
+pub mod ExtraRows
 pub mod Rows
 pub mod Leading

@@ -5,7 +5,13 @@ ghost use Rattle.std.specs.Cmp.{IsTotalOrder};
 ghost use Rattle.std.specs.declared.cmp.Ordering.TheVariants.{Equal};
 ghost use Rattle.monomials.specs.Monomials.{Monomial, plus};
 ghost use Rattle.monomials.specs.Orders.{RowOrder, order_cmp};
+ghost use Rattle.monomials.specs.declared.order.Block.{Block};
+ghost use Rattle.monomials.specs.Blocks.{AreWeighted, Covers, order_of};
+ghost use Rattle.monomials.specs.ExtraRows.{with_rows};
+ghost use Rattle.monomials.specs.WellFounded.{IsWellFounded, IsDescent};
 ghost use Rattle.monomials.specs.Polynomials.{Polynomial, IsPolynomial, coefficient_at};
+
+use crate::order::Order;
 
 /// Rows order all monomials totally, and equal monomials alone tie.
 pub fn order_is_total()
@@ -17,6 +23,22 @@ pub fn order_is_total()
 pub fn order_is_kept()
     ensures { (rows : List (List ℤ)) (a b c : Monomial) → length a ≡ length c → length b ≡ length c →
         order_cmp rows (plus a c) (plus b c) ≡ order_cmp rows a b }
+{}
+
+/// No monomials in the order's variables fall forever, each below the one before: every monomial is
+/// reached from below.
+pub fn order_is_well_founded(order: &Order)
+    ensures reached { IsWellFounded order.now }
+    ensures no_descent { (s : ℕ → Monomial) → IsDescent order.now s → ⊥ }
+{
+    let _n = order.vars();
+}
+
+/// The same holds of the order of any blocks that `Order::new` takes, with any rows of weights that
+/// are not negative in front, also zero ones.
+pub fn blocks_are_well_founded()
+    ensures { (n : ℕ) (blocks : List Block) (extra : List (List ℕ)) → Covers n blocks → AreWeighted blocks →
+        IsWellFounded (with_rows extra (order_of n blocks)) }
 {}
 
 /// Sorted polynomials with the same number at each monomial are equal.

@@ -8,3 +8,5 @@ mod expo;
 pub mod laws;
 mod order;
 mod row;
+#[cfg(test)]
+mod tests;

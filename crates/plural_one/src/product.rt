@@ -48,7 +48,7 @@ fn degree_order(alloc: Global) -> Result<Order, AllocError>
     match Order::new(alloc, &[Block::DegRev { len: 2 }], 2) {
         Ok(order) => Ok(order),
         Err(OrderFault::Memory) => Err(AllocError),
-        Err(OrderFault::Cover) => unreachable!(),
+        Err(OrderFault::Cover | OrderFault::Weight) => unreachable!(),
     }
 }
 

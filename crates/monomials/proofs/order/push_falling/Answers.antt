@@ -1,0 +1,15 @@
+use Rattle.std.proofs.Common.{◌≡◌, ◌+◌, ◌-◌, arith}
+use Rattle.monomials.proofs.AddedRows.{adds_falling, adds_all}
+use Rattle.monomials.proofs.order.push_falling.Goals as goal
+
+pub loop-k-preserved : goal.loop-k-preserved
+loop-k-preserved c =
+    λ n inside.
+    adds_falling n _ _ _ _ c.args.at (c.args.at + (c.loop-k.k - 1)) c.loop-k.k (c.loop-k.k - 1) (c.loop-k.invariant n inside) (omega arith)
+    (omega arith) (omega arith) c.in_ok-push.ensures.items
+
+pub returns : goal.returns
+returns c =
+    λ n inside.
+    let done : c.loop-k.k ≡ 0 = omega arith in
+    adds_all n _ _ _ (rw done at (c.loop-k.invariant n inside))

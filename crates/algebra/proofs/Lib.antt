@@ -7,3 +7,4 @@ mod Testing
 mod OverlapSums
 mod Letterwise
 mod Commuting
+mod ProductLaws

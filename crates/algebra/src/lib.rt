@@ -16,6 +16,7 @@ use std::alloc::{AllocError, Global};
 use std::marker::Model;
 
 mod conditions;
+pub mod laws;
 mod presentation;
 mod product;
 mod rewriting;

@@ -8,3 +8,4 @@ mod OverlapSums
 mod Letterwise
 mod Commuting
 mod ProductLaws
+mod Prefixes

@@ -2,3 +2,4 @@ pub mod Presentations
 pub mod Faults
 pub mod Places
 pub mod WordSums
+pub mod Prefixes

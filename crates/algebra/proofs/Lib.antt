@@ -8,4 +8,3 @@ mod OverlapSums
 mod Letterwise
 mod Commuting
 mod ProductLaws
-mod Prefixes

@@ -2,4 +2,3 @@ pub mod Presentations
 pub mod Faults
 pub mod Places
 pub mod WordSums
-pub mod Prefixes

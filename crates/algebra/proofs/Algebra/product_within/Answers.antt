@@ -8,7 +8,6 @@ use Rattle.gpoly.specs.Terms.{pair_of, pairs_of}
 use Rattle.gpoly.proofs.TermLists.{numbers_at, vars_at}
 use Rattle.word_model.specs.Products.{product}
 use Rattle.word_model.proofs.TermProducts.{product-zero}
-use Rattle.algebra.specs.Prefixes.{prefix_products}
 use Rattle.algebra.proofs.Letterwise.{degree_at, product_more}
 use Rattle.algebra.proofs.Algebra.product_within.Goals as goal
 
@@ -18,7 +17,6 @@ loop-term-init c =
     record {
       sorted = subst (IsPolynomial a.p a.order) (sym c.zero-sum.ensures) (record { canonical = tt; vars = tt });
       value = c.zero-sum.ensures ∙ sym (product-zero a c.args.f.now);
-      known = c.new-2.ensures.items ∙ ap (prefix_products a c.args.f.now) (sym c.new.ensures.items);
     }
 
 pub times_term-requires-clause-in_range : goal.times_term-requires-clause-in_range
@@ -55,5 +53,4 @@ loop-term-preserved c =
           c.in_ok-sum.ensures.value
           ∙ (λ i. poly_add (order_cmp (c.order.ensures i).rows) (c.field.ensures i) (c.loop-term.invariant.value i) (c.in_ok-part.ensures.value i))
           ∙ product_more a c.n-n.ensures.prime.above_one c.args.f.now c.terms-term-items.result.now c.loop-term.term-index c.term-item.result c.loop-term-test.true c.term-item.is;
-      known = c.in_ok-part.ensures.known;
     }

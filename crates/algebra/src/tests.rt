@@ -122,6 +122,7 @@ fn associates_in_sl2(rt: HostRuntime) -> Result<(), Fail> {
     let alloc = rt.alloc();
     let relations = ["32002:001", "2:100", "32001:010"];
     let algebra = algebra(alloc, Field::of(32003)?, "1 1 1", relations)??;
+    assert_eq!(rt; algebra.n(), 3);
     let (field, order) = (algebra.field(), algebra.order());
     let e = poly(alloc, field, order, "1:100")?;
     let f = poly(alloc, field, order, "1:010")?;

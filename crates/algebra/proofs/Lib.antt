@@ -11,3 +11,4 @@ pub mod Fitting
 pub mod SortedAnew
 pub mod OrderFaults
 pub mod SortedRelations
+mod ProductLaws

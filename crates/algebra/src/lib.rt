@@ -17,6 +17,7 @@ use std::marker::Model;
 
 mod comparing;
 mod conditions;
+pub mod laws;
 mod presentation;
 mod product;
 mod reordering;

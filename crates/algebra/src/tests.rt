@@ -123,6 +123,26 @@ fn multiplies(rt: HostRuntime) -> Result<(), Fail> {
     Ok(())
 }
 
+// f^2 e = e f^2 - 2 f h + 2 f in sl2, with e, f and h as in the table.
+#[test]
+fn associates_in_sl2(rt: HostRuntime) -> Result<(), Fail> {
+    let alloc = rt.alloc();
+    let relations = ["32002:001", "2:100", "32001:010"];
+    let algebra = algebra(alloc, Field::of(32003)?, "dp", "1 1 1", relations)??;
+    assert_eq!(rt; algebra.n(), 3);
+    let (field, order) = (algebra.field(), algebra.order());
+    let e = poly(alloc, field, order, "1:100")?;
+    let f = poly(alloc, field, order, "1:010")?;
+    let want = poly(alloc, field, order, "1:120 32001:011 2:010")?;
+    let square = algebra.plain_product(alloc, &f, &f)?;
+    let square_first = algebra.plain_product(alloc, &square, &e)?;
+    let letter = algebra.plain_product(alloc, &f, &e)?;
+    let letter_first = algebra.plain_product(alloc, &f, &letter)?;
+    assert!(rt; square_first.equals(&want), "{square_first:?}");
+    assert!(rt; letter_first.equals(&want), "{letter_first:?}");
+    Ok(())
+}
+
 // An order, the numbers and polynomials of the pairs over the field with 7 elements, and the first fault.
 const FAULTS: &str = "\
 dp|1 1 1|1:001|0:000|1:010|NonDegeneracy 1 2 3 1:001

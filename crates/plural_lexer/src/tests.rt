@@ -9,9 +9,6 @@ use std::test::Fail;
 fn bytes_of(alloc: Global, text: &str) -> Result<Vec<u8>, Fail>
     ensures { IfOk result (λ bytes. length bytes.items ≤ 1048576) }
 {
-    if text.len() > 1000 {
-        return Err("a script of a table is short".into());
-    }
     let mut bytes = Vec::new(alloc);
     for byte in text.as_bytes() {
         bytes.push(match *byte {
@@ -19,6 +16,9 @@ fn bytes_of(alloc: Global, text: &str) -> Result<Vec<u8>, Fail>
             b'!' => b'\r',
             other => other,
         })?;
+    }
+    if bytes.len() > 1048576 {
+        return Err("a script of a table is short".into());
     }
     Ok(bytes)
 }

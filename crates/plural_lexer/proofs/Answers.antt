@@ -1,14 +1,12 @@
 -- A script has one answer, and its tokens end with `End`.
-use Rattle.std.proofs.Common.{◌≡◌, ◌==◌, ◌&&◌, ℕ, Bool, true, false, if◌then◌else◌, List, [], ◌∷◌, ◌++◌, take, drop, slice_index, length, nat_le, Option, Some, None, Result, Ok, Err, refl, sym, ap, subst, ◌∙◌, append_assoc, append-nil}
+use Rattle.std.proofs.Common.{◌≡◌, ◌==◌, ◌&&◌, ℕ, Bool, true, false, if◌then◌else◌, List, [], ◌∷◌, ◌++◌, take, drop, slice_index, nat_le, Option, Some, None, Result, Ok, Err, refl, sym, ap, subst, ◌∙◌, append_assoc, append-nil}
 use Rattle.std.proofs.lemmas.List.{take-append-drop}
 use Rattle.std.specs.List.{prefix_len}
 use Rattle.plural_lexer.specs.declared.token.Token.{Token}
-use Rattle.plural_lexer.specs.declared.token.TokenKind.{TokenKind}
 use Rattle.plural_lexer.specs.declared.token.TokenKind.TheVariants as kind
 use Rattle.plural_lexer.specs.declared.fault.LexFault.{LexFault}
 use Rattle.plural_lexer.specs.declared.pieces.Piece.{Piece}
 use Rattle.plural_lexer.specs.declared.pieces.Piece.TheVariants as p
-use Rattle.plural_lexer.specs.declared.pieces.Cause.{Cause}
 use Rattle.plural_lexer.specs.declared.pieces.Cause.TheVariants as cause
 use Rattle.plural_lexer.specs.declared.pieces.Class.TheVariants.{Word, Digit, Line}
 use Rattle.plural_lexer.specs.Places.{place_of}

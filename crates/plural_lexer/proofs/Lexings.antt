@@ -1,4 +1,4 @@
-use Rattle.std.proofs.Common.{◌≡◌, ℕ, zero, suc, subst, length-drop, drop-drop, length-take-le, ◌+◌, ◌≤◌, ◌<◌, ◌==◌, true, false, cond, [], ◌∷◌, ◌++◌, List, length, take, drop, Result, Ok, Err, refl, sym, ap, ◌∙◌, arith, append_assoc}
+use Rattle.std.proofs.Common.{◌≡◌, ℕ, zero, suc, subst, length-drop, drop-drop, length-take-le, ◌+◌, ◌≤◌, ◌<◌, ◌==◌, true, false, [], ◌∷◌, ◌++◌, List, length, take, drop, Result, Ok, Err, refl, sym, ap, arith, append_assoc}
 use Rattle.plural_lexer.specs.declared.token.Token.{Token}
 use Rattle.plural_lexer.specs.declared.fault.LexFault.{LexFault}
 use Rattle.plural_lexer.specs.declared.place.Place.{Place}

@@ -1,4 +1,4 @@
-use Rattle.std.proofs.Common.{◌≡◌, [], List, Ok}
+use Rattle.std.proofs.Common.{[], Ok}
 use Rattle.plural_lexer.proofs.Answers.{ends_well}
 use Rattle.plural_lexer.proofs.laws.end_stands_last.Goals as goal
 

@@ -1,4 +1,4 @@
-use Rattle.std.proofs.Common.{◌≡◌, [], List}
+use Rattle.std.proofs.Common.{[]}
 use Rattle.plural_lexer.proofs.Answers.{once}
 use Rattle.plural_lexer.proofs.laws.one_answer.Goals as goal
 

@@ -1,11 +1,9 @@
-use Rattle.std.proofs.Common.{◌≡◌, ◌+◌, ◌-◌, ◌≤◌, ◌<◌, ◌∙◌, length, take, drop, ap, sym, refl, subst, arith, length-take, length-take-le, length-drop}
+use Rattle.std.proofs.Common.{◌≡◌, ◌+◌, ◌-◌, ◌∙◌, length, take, drop, ap, refl, arith, length-take, length-drop}
 use Rattle.std.proofs.lemmas.List.{take_rest}
 use Rattle.plural_lexer.specs.declared.pieces.Piece.TheVariants as piece
 use Rattle.plural_lexer.specs.declared.token.TokenKind.TheVariants.{End}
-use Rattle.plural_lexer.specs.Places.{place_of}
 use Rattle.plural_lexer.specs.Pieces.{piece}
 use Rattle.plural_lexer.proofs.Lexings.{past_blank, past_token, at_fault, at_end, place_small, place_plus, gives_fault, same_token, piece_within, token_within}
-use Rattle.plural_lexer.proofs.lexing.tokens.Given as given
 use Rattle.plural_lexer.proofs.lexing.tokens.Goals as goal
 use Rattle.plural_lexer.proofs.lexing.tokens.Goals.{in-Blank, in-Token+in_ok-push-in-Token}
 

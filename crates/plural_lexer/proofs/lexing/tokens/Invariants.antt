@@ -1,8 +1,5 @@
-use Rattle.std.proofs.Common.{◌≡◌, ℕ, ◌+◌, ◌-◌, ◌≤◌, [], ◌∷◌, List, length, take, drop, Result}
-use Rattle.plural_lexer.specs.declared.token.Token.{Token}
-use Rattle.plural_lexer.specs.declared.fault.LexFault.{LexFault}
+use Rattle.std.proofs.Common.{◌≡◌, ◌-◌, ◌≤◌, length, take}
 use Rattle.plural_lexer.specs.Places.{place_of}
-use Rattle.plural_lexer.specs.Tokens.{IsLexed}
 use Rattle.plural_lexer.proofs.Lexings.{GoesOn}
 use Rattle.plural_lexer.proofs.lexing.tokens.Given as goal
 

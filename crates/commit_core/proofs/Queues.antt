@@ -1,8 +1,8 @@
 -- Keys of jobs, the least job, and the jobs that a new element brings.
-use Rattle.std.proofs.Common.{◌≡◌, ◌≢◌, ℕ, zero, suc, ◌+◌, ◌-◌, ◌<◌, ◌≤◌, Option, Some, None, add-one, Bool, true, false, List, [], ◌∷◌, ◌++◌, length, take, get_or, if◌then◌else◌, refl, sym, ap, ◌∙◌, subst, arith, append_assoc}
+use Rattle.std.proofs.Common.{◌≡◌, ◌≢◌, ℕ, zero, suc, ◌+◌, ◌-◌, ◌<◌, ◌≤◌, Some, None, add-one, Bool, true, false, List, [], ◌∷◌, ◌++◌, length, take, get_or, if◌then◌else◌, refl, sym, ap, ◌∙◌, subst, arith, append_assoc}
 use Rattle.std.proofs.lemmas.List.{take_more, length-take-le}
 use Rattle.std.specs.Ordering.{ordering_then, is_lt}
-use Rattle.monomials.specs.Monomials.{Monomial, lcm, plus, variable}
+use Rattle.monomials.specs.Monomials.{Monomial, variable}
 use Rattle.monomials.specs.Orders.{RowOrder, order_cmp}
 use Rattle.monomials.specs.Polynomials.{Polynomial, Each, IsPolynomial}
 use Rattle.monomials.specs.Leading.{leading_monomial}
@@ -10,7 +10,7 @@ use Rattle.monomials.proofs.Exponents.{length-zip_with}
 use Rattle.monomials.proofs.Keys.{Each-weaker}
 use Rattle.word_model.specs.Words.{Algebra}
 use Rattle.word_model.specs.Reduction.{element, least_number}
-use Rattle.word_model.specs.Jobs.{pair_lcm, key_monomial, key_cmp, rank_of, rank_cmp, least_job, is_witness, chain_witness}
+use Rattle.word_model.specs.Jobs.{key_monomial, key_cmp, rank_of, rank_cmp, least_job, is_witness, chain_witness}
 use Rattle.word_model.specs.Machine.{IsElement, pairs_with, rights_of, seeds_from}
 use Rattle.word_model.specs.declared.records.Job.{Job}
 use Rattle.word_model.specs.declared.records.Job.TheVariants.{Seed, Pair, Right}

@@ -1,6 +1,6 @@
 //! Worked runs. Polynomials are texts: their terms, each a number and the digits of its exponents.
 
-ghost use Rattle.std.specs.Prelude.{◌≡◌, ◌≤◌, IfOk, length};
+ghost use Rattle.std.specs.Prelude.{◌≡◌, ◌≤◌, ◌++◌, ◌∷◌, [], IfOk, OnOk, length};
 ghost use Rattle.monomials.specs.Monomials.{degree};
 ghost use Rattle.monomials.specs.Polynomials.{Each, IsPolynomial};
 
@@ -52,6 +52,13 @@ fn poly(alloc: Global, field: Field, order: &Order, text: &str) -> Result<GPoly,
     Ok(sum)
 }
 
+fn push(polys: &mut Vec<GPoly>, poly: GPoly) -> Result<(), AllocError>
+    ensures { OnOk result (polys.new.items ≡ polys.old.items ++ poly ∷ []) }
+{
+    polys.push(poly)?;
+    Ok(())
+}
+
 // The polynomials between the commas of a text.
 fn polys(alloc: Global, alg: &Algebra, text: &str) -> Result<Vec<GPoly>, Fail>
     ensures { IfOk result (λ fs. Each (IsPolynomial alg.now.p alg.now.order) fs.items) }
@@ -59,7 +66,7 @@ fn polys(alloc: Global, alg: &Algebra, text: &str) -> Result<Vec<GPoly>, Fail>
     let mut polys = Vec::new(alloc);
     for piece in text.split(", ") {
         let part = poly(alloc, alg.field(), alg.order(), piece)?;
-        polys.push(part).map_err(AllocError::from)?;
+        push(&mut polys, part)?;
     }
     Ok(polys)
 }

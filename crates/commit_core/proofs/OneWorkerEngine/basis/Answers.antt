@@ -1,4 +1,4 @@
-use Rattle.std.proofs.Common.{◌≡◌, ◌<◌, ◌-◌, length, sym, ap, ◌∙◌, subst, arith}
+use Rattle.std.proofs.Common.{◌-◌, length, sym, ap, ◌∙◌, subst, arith}
 use Rattle.word_model.specs.Machine.{State, IsState, ends_with}
 use Rattle.word_model.proofs.Steps.{first_state-is, step-keeps}
 use Rattle.commit_core.proofs.Turning.{run-first, run-goes_on, run-ends, step-adds}

@@ -1,4 +1,4 @@
-use Rattle.std.proofs.Common.{◌≡◌, ◌+◌, ◌-◌, ◌<◌, length, sym, ◌∙◌, arith}
+use Rattle.std.proofs.Common.{◌+◌, ◌<◌, length, sym, ◌∙◌, arith}
 use Rattle.word_model.specs.Jobs.{is_witness}
 use Rattle.commit_core.proofs.Queues.{witness-no_pair, witness-pair, least-here, least-later, least-none}
 use Rattle.commit_core.proofs.queue.chain_witness.Goals as goal

@@ -1,7 +1,5 @@
-use Rattle.std.proofs.Common.{◌≡◌, length, ap, ◌∙◌, subst}
+use Rattle.std.proofs.Common.{◌≡◌, length, ap, ◌∙◌}
 use Rattle.word_model.specs.Jobs.{key_monomial}
-use Rattle.word_model.specs.declared.records.Job.TheVariants.{Pair, Right}
-use Rattle.commit_core.specs.Named.{IsNamed}
 use Rattle.commit_core.proofs.Queues.{key-vars}
 use Rattle.commit_core.proofs.queue.key_monomial.Goals as goal
 

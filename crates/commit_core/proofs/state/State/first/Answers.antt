@@ -1,5 +1,3 @@
-use Rattle.std.proofs.Common.{◌≡◌, ℕ, ◌+◌, ◌++◌, [], ◌∷◌, take, get_or, length, ap, ◌∙◌, sym, arith}
-use Rattle.word_model.specs.Machine.{seeds_from}
 use Rattle.commit_core.proofs.Queues.{seeds_from-more}
 use Rattle.commit_core.proofs.state.State.first.Goals as goal
 

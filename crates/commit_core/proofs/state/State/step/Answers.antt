@@ -1,4 +1,4 @@
-use Rattle.std.proofs.Common.{◌≡◌, ◌<◌, ◌≤◌, List, [], ◌∷◌, Some, None, length, refl, sym, ap, ◌∙◌, subst, arith}
+use Rattle.std.proofs.Common.{◌≡◌, List, [], ◌∷◌, Some, None, length, refl, sym, ap, ◌∙◌, subst, arith}
 use Rattle.monomials.specs.Polynomials.{Polynomial, Each}
 use Rattle.word_model.specs.Jobs.{least_job, chain_witness}
 use Rattle.word_model.specs.Machine.{State, Turn}

@@ -9,3 +9,5 @@ pub mod Runs
 pub mod Relations
 pub mod Products
 pub mod Bases
+pub mod Finishing
+pub mod Tails

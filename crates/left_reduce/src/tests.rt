@@ -1,0 +1,192 @@
+//! Worked starts and reductions modulo 7, in x, y and z with y x = x y + 1. Tables are texts: a polynomial is its terms,
+//! each a number and the three digits of its exponents, and a step is a term with the number of an element behind it.
+
+ghost use Rattle.std.specs.Prelude.{◌≡◌, ◌≤◌, length, IfOk};
+ghost use Rattle.monomials.specs.Monomials.{degree};
+ghost use Rattle.monomials.specs.Polynomials.{IsPolynomial};
+
+use super::*;
+use crate::plain::{reduce, reduce_tail, start_of};
+use algebra::{Algebra, ProductFault, Relations};
+use gpoly::Term;
+use monomials::{Block, Order};
+use prime_field::Field;
+use run_records::{Job, Trace};
+use std::alloc::{AllocError, Global};
+use std::test::Fail;
+
+// The monomial with these digits as exponents.
+fn monomial(x: u8, y: u8, z: u8) -> Expo
+    ensures vars { length result ≡ 3 }
+    ensures small { degree result ≤ 4095 }
+{
+    let digit = |byte: u8| u16::from(byte.saturating_sub(b'0'));
+    Expo::of(&[digit(x), digit(y), digit(z)])
+}
+
+// The polynomial with one term, as `2:100` for 2 x.
+fn term(alloc: Global, field: Field, order: &Order, text: &str) -> Result<GPoly, Fail>
+    requires { order.now.vars ≡ 3 }
+    ensures { IfOk result (λ f. IsPolynomial field order.now f) }
+{
+    let (number, exponents) = text.split_once(':').ok_or("a term has a colon")?;
+    let [x, y, z] = exponents.as_bytes() else {
+        return Err("a term has three exponents".into());
+    };
+    let coef = field.from_int(number.parse::<u64>()?);
+    let mono = monomial(*x, *y, *z);
+    let term = GPoly::from_terms(alloc, field, order, &[Term { coef, mono }])?;
+    Ok(term)
+}
+
+// The sum of the terms, as `1:110 1:000` for x y + 1.
+fn poly(alloc: Global, field: Field, order: &Order, text: &str) -> Result<GPoly, Fail>
+    requires { order.now.vars ≡ 3 }
+    ensures { IfOk result (λ f. IsPolynomial field order.now f) }
+{
+    let mut sum = GPoly::zero(alloc);
+    for piece in text.split(' ') {
+        let part = term(alloc, field, order, piece)?;
+        sum = sum.add(alloc, field, order, &part)?;
+    }
+    Ok(sum)
+}
+
+// The algebra with y x = x y + 1, where z commutes.
+fn weyl(alloc: Global) -> Result<Algebra, Fail>
+    ensures { IfOk result (λ a. a.order.vars ≡ 3) }
+{
+    let field = Field::of(7)?;
+    let order = Order::new(alloc, &[Block::DegRev { len: 3 }], 3)?;
+    let one = poly(alloc, field, &order, "1:000")?;
+    let (zero, none) = (GPoly::zero(alloc), GPoly::zero(alloc));
+    let c = Vec::from_array(alloc, [1, 1, 1])?;
+    let d = Vec::from_array(alloc, [one, zero, none]).map_err(AllocError::from)?;
+    Ok(Algebra::new(alloc, field, order, 3, Relations { c, d })?)
+}
+
+// Adds a term's number and exponents.
+fn push_term(text: &mut String, coef: u32, mono: &Expo) -> Result<(), AllocError> {
+    write!(text, "{coef}:")?;
+    for v in 1..=mono.len() as u8 {
+        write!(text, "{}", mono.get(v))?;
+    }
+    Ok(())
+}
+
+// The terms of a polynomial, each with a space behind it.
+fn poly_text(alloc: Global, f: &GPoly) -> Result<String, AllocError> {
+    let mut text = String::new(alloc);
+    for term in f.terms() {
+        push_term(&mut text, term.coef, &term.mono)?;
+        text.push(' ')?;
+    }
+    Ok(text)
+}
+
+// The steps, each with a space behind it.
+fn trace_text(alloc: Global, trace: &Trace) -> Result<String, AllocError> {
+    let mut text = String::new(alloc);
+    for step in trace.steps() {
+        push_term(&mut text, step.coef, &step.mono)?;
+        write!(text, ":{} ", step.index)?;
+    }
+    Ok(text)
+}
+
+#[test]
+fn starts(rt: HostRuntime) -> Result<(), Fail> {
+    let alloc = rt.alloc();
+    let alg = weyl(alloc)?;
+    let f = poly(alloc, alg.field(), alg.order(), "1:020")?;
+    let g = poly(alloc, alg.field(), alg.order(), "1:110")?;
+    if f.is_zero() || g.is_zero() {
+        return Err("the elements are not zero".into());
+    }
+    let basis = Vec::from_array(alloc, [f, g]).map_err(AllocError::from)?;
+    let seed = start_of(alloc, &alg, &basis, &basis, &Job::Seed { s: 2 })?;
+    assert_eq!(rt; poly_text(alloc, &seed)?.as_str(), "1:110 ");
+    let pair = start_of(alloc, &alg, &basis, &[], &Job::Pair { i: 1, j: 2 })?;
+    assert_eq!(rt; poly_text(alloc, &pair)?.as_str(), "6:010 ");
+    let right = start_of(alloc, &alg, &basis, &[], &Job::Right { i: 2, v: 1 })?;
+    assert_eq!(rt; poly_text(alloc, &right)?.as_str(), "1:210 1:100 ");
+    Ok(())
+}
+
+// What is reduced, its leading term or its tail, three elements, a polynomial, its steps, and what they leave.
+const REDUCTIONS: &str = "\
+lead|1:110|1:010|0:000|1:120|1:010:1 6:000:2 |
+lead|0:000|1:110|1:010|1:120|1:010:2 6:000:3 |
+lead|2:110|1:001|0:000|1:120 1:001|4:010:1 |6:010 1:001 
+lead|1:001|1:001|0:000|1:100 1:001||1:100 1:001 
+tail|1:100 6:010|1:010 6:001|1:001 6:000|1:100 6:010|6:000:2 6:000:3 |1:100 6:000 
+tail|1:001|1:010|1:110|1:110 1:010 1:001|1:000:2 1:000:1 |1:110 ";
+
+#[test]
+fn reduces_leading_terms_and_tails(rt: HostRuntime) -> Result<(), Fail> {
+    let alloc = rt.alloc();
+    let alg = weyl(alloc)?;
+    for row in REDUCTIONS.lines() {
+        let fields: Vec<&str> = row.split('|').collect(alloc)?;
+        let [kind, first, second, third, h, trace, rest] = fields.as_slice() else {
+            return Err("a row has seven fields".into());
+        };
+        let (field, order) = (alg.field(), alg.order());
+        let first = poly(alloc, field, order, first)?;
+        let second = poly(alloc, field, order, second)?;
+        let third = poly(alloc, field, order, third)?;
+        let h = poly(alloc, field, order, h)?;
+        let basis = Vec::from_array(alloc, [first, second, third]).map_err(AllocError::from)?;
+        let reduced = match *kind {
+            "lead" => reduce(alloc, &alg, &basis, h)?,
+            _ => reduce_tail(alloc, &alg, &basis, &h)?,
+        };
+        assert!(rt; !reduced.over);
+        assert_eq!(rt;
+            trace_text(alloc, &reduced.trace)?.as_str(),
+            *trace,
+            "{row}"
+        );
+        assert_eq!(rt; poly_text(alloc, &reduced.rest)?.as_str(), *rest, "{row}");
+    }
+    Ok(())
+}
+
+// A power product as a polynomial.
+fn power(alloc: Global, alg: &Algebra, x: u16, y: u16, z: u16) -> Result<GPoly, Fail>
+    requires vars { alg.now.order.vars ≡ 3 }
+    requires small { x + y + z ≤ 4095 }
+    ensures { IfOk result (λ f. IsPolynomial alg.now.p alg.now.order f) }
+{
+    let mono = Expo::of(&[x, y, z]);
+    let _n = alg.n();
+    let power = GPoly::from_terms(alloc, alg.field(), alg.order(), &[Term { coef: 1, mono }])?;
+    Ok(power)
+}
+
+#[test]
+fn makes_no_product_of_high_degree(rt: HostRuntime) -> Result<(), Fail> {
+    let alloc = rt.alloc();
+    // x is above all powers of y and z.
+    let blocks = [Block::DegRev { len: 1 }, Block::DegRev { len: 2 }];
+    let order = Order::new(alloc, &blocks, 3)?;
+    let ring = Algebra::commuting(alloc, Field::of(7)?, order, 3)?;
+    let f = power(alloc, &ring, 3000, 0, 0)?;
+    let g = power(alloc, &ring, 0, 3000, 0)?;
+    if f.is_zero() || g.is_zero() {
+        return Err("the elements are not zero".into());
+    }
+    let x = power(alloc, &ring, 1, 0, 0)?;
+    let element = x.sub(alloc, ring.field(), ring.order(), &g)?;
+    let basis = Vec::from_array(alloc, [f, g]).map_err(AllocError::from)?;
+    match start_of(alloc, &ring, &basis, &[], &Job::Pair { i: 1, j: 2 }) {
+        Ok(_) => return Err("the degrees add up to 6000".into()),
+        Err(fault) => assert!(rt; matches!(fault, ProductFault::DegreeOver)),
+    }
+    let basis = Vec::from_array(alloc, [element]).map_err(AllocError::from)?;
+    let h = power(alloc, &ring, 1, 2000, 0)?;
+    let reduced = reduce(alloc, &ring, &basis, h)?;
+    assert!(rt; reduced.over && reduced.trace.steps().is_empty());
+    assert_eq!(rt; reduced.rest.degree(), 2001);
+    Ok(())
+}

@@ -1,0 +1,12 @@
+use Rattle.std.proofs.Common.{◌≡◌, ◌≤◌, length}
+use Rattle.monomials.specs.Polynomials.{Each}
+use Rattle.word_model.specs.Finished.{Final}
+use Rattle.word_model.specs.Machine.{IsElement}
+use Rattle.plural_one.proofs.Finishing.{has_finals}
+use Rattle.plural_one.proofs.finish.finals.Given as goal
+
+abbrev pub invariant-loop-place : goal.invariant-loop-place
+invariant-loop-place g l =
+    has_finals l.algebra (g.E.Elements.elements l.elements) l.place l.finals.items
+    × Each (λ (x : Final). IsElement l.algebra x.polynomial) l.finals.items
+    × (l.place ≤ length (g.E.Elements.elements l.elements))

@@ -136,17 +136,17 @@ pub fn reduce_tail<B: Elements>(
     ensures sorted { IfOk result (λ r. IsPolynomial alg.now.p alg.now.order r.rest) }
 {
     let _n = alg.n();
-    let mut trace = Trace::new(alloc);
+    let mut steps = Trace::new(alloc);
     let mut rest = h.copy(alloc)?;
     while let Some(target) = tail_target(basis, &rest) {
         match next_step(alloc, alg, basis, &rest, &target)? {
             Next::Step(step, left) => {
-                trace.push(step)?;
+                steps.push(step)?;
                 rest = left;
             }
             Next::Over => {
                 return Ok(Reduced {
-                    trace,
+                    trace: steps,
                     rest,
                     over: true,
                 });
@@ -154,7 +154,7 @@ pub fn reduce_tail<B: Elements>(
         }
     }
     Ok(Reduced {
-        trace,
+        trace: steps,
         rest,
         over: false,
     })

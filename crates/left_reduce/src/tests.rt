@@ -1,12 +1,14 @@
 //! Worked starts and reductions modulo 7, in x, y and z with y x = x y + 1. Tables are texts: a polynomial is its terms,
 //! each a number and the three digits of its exponents, and a step is a term with the number of an element behind it.
 
-ghost use Rattle.std.specs.Prelude.{◌≡◌, ◌≤◌, length, IfOk};
+ghost use Rattle.std.specs.Prelude.{◌≡◌, ◌≢◌, ◌+◌, ◌≤◌, [], length, IfOk};
 ghost use Rattle.monomials.specs.Monomials.{degree};
-ghost use Rattle.monomials.specs.Polynomials.{IsPolynomial};
+ghost use Rattle.monomials.specs.Polynomials.{Each, IsPolynomial};
+ghost use Rattle.word_model.specs.Reduction.{element};
+ghost use Rattle.word_model.specs.Jobs.{IsJob, NamesNonzero};
 
 use super::*;
-use crate::plain::{reduce, reduce_tail, start_of};
+use crate::plain::{Reduced, reduce, reduce_tail, start_of};
 use algebra::{Algebra, ProductFault, Relations};
 use gpoly::Term;
 use monomials::{Block, Order};
@@ -94,60 +96,110 @@ fn trace_text(alloc: Global, trace: &Trace) -> Result<String, AllocError> {
     Ok(text)
 }
 
+// Two elements that are not zero.
+fn two(alloc: Global, alg: &Algebra, f: GPoly, g: GPoly) -> Result<Vec<GPoly>, Fail>
+    requires f_sorted { IsPolynomial alg.now.p alg.now.order f }
+    requires g_sorted { IsPolynomial alg.now.p alg.now.order g }
+    ensures sorted { IfOk result (λ v. Each (IsPolynomial alg.now.p alg.now.order) v.items) }
+    ensures count { IfOk result (λ v. length v.items ≡ 2) }
+    ensures first { IfOk result (λ v. element v.items 1 ≢ []) }
+    ensures second { IfOk result (λ v. element v.items 2 ≢ []) }
+{
+    if f.is_zero() || g.is_zero() {
+        return Err("the elements are not zero".into());
+    }
+    let elements = Vec::from_array(alloc, [f, g]).map_err(AllocError::from)?;
+    Ok(elements)
+}
+
+// The terms of a start.
+fn start_text(alloc: Global, alg: &Algebra, basis: &Vec<GPoly>, job: &Job) -> Result<String, Fail>
+    requires sorted { Each (IsPolynomial alg.now.p alg.now.order) basis.now.items }
+    requires in_range { IsJob (length basis.now.items) (length basis.now.items) alg.now.order.vars job.now }
+    requires nonzero { NamesNonzero basis.now.items basis.now.items job.now }
+{
+    let start = start_of(alloc, alg, basis, basis, job)?;
+    Ok(poly_text(alloc, &start)?)
+}
+
 #[test]
 fn starts(rt: HostRuntime) -> Result<(), Fail> {
     let alloc = rt.alloc();
     let alg = weyl(alloc)?;
     let f = poly(alloc, alg.field(), alg.order(), "1:020")?;
     let g = poly(alloc, alg.field(), alg.order(), "1:110")?;
-    if f.is_zero() || g.is_zero() {
-        return Err("the elements are not zero".into());
-    }
-    let basis = Vec::from_array(alloc, [f, g]).map_err(AllocError::from)?;
-    let seed = start_of(alloc, &alg, &basis, &basis, &Job::Seed { s: 2 })?;
-    assert_eq!(rt; poly_text(alloc, &seed)?.as_str(), "1:110 ");
-    let pair = start_of(alloc, &alg, &basis, &[], &Job::Pair { i: 1, j: 2 })?;
-    assert_eq!(rt; poly_text(alloc, &pair)?.as_str(), "6:010 ");
-    let right = start_of(alloc, &alg, &basis, &[], &Job::Right { i: 2, v: 1 })?;
-    assert_eq!(rt; poly_text(alloc, &right)?.as_str(), "1:210 1:100 ");
+    let basis = two(alloc, &alg, f, g)?;
+    let seed = start_text(alloc, &alg, &basis, &Job::Seed { s: 2 })?;
+    assert_eq!(rt; seed.as_str(), "1:110 ");
+    let pair = start_text(alloc, &alg, &basis, &Job::Pair { i: 1, j: 2 })?;
+    assert_eq!(rt; pair.as_str(), "6:010 ");
+    let right = start_text(alloc, &alg, &basis, &Job::Right { i: 2, v: 1 })?;
+    assert_eq!(rt; right.as_str(), "1:210 1:100 ");
     Ok(())
 }
 
-// What is reduced, its leading term or its tail, three elements, a polynomial, its steps, and what they leave.
+// Three elements, which have a semicolon between them.
+fn three(alloc: Global, alg: &Algebra, text: &str) -> Result<Vec<GPoly>, Fail>
+    requires { alg.now.order.vars ≡ 3 }
+    ensures sorted { IfOk result (λ v. Each (IsPolynomial alg.now.p alg.now.order) v.items) }
+    ensures count { IfOk result (λ v. length v.items ≡ 3) }
+{
+    let (first, others) = text.split_once(';').ok_or("there are three elements")?;
+    let (second, third) = others.split_once(';').ok_or("there are three elements")?;
+    let first = poly(alloc, alg.field(), alg.order(), first)?;
+    let second = poly(alloc, alg.field(), alg.order(), second)?;
+    let third = poly(alloc, alg.field(), alg.order(), third)?;
+    let elements = Vec::from_array(alloc, [first, second, third]).map_err(AllocError::from)?;
+    Ok(elements)
+}
+
+// The steps of a reduction and what they leave, with a bar between.
+fn reduced_text(alloc: Global, reduced: &Reduced) -> Result<String, AllocError> {
+    let trace = trace_text(alloc, &reduced.trace)?;
+    let rest = poly_text(alloc, &reduced.rest)?;
+    format!(in alloc; "{trace}|{rest}|{}", reduced.over)
+}
+
+// A reduction, or that of a tail.
+fn reduction(
+    alloc: Global,
+    alg: &Algebra,
+    kind: &str,
+    elements: &str,
+    h: &str,
+) -> Result<String, Fail>
+    requires { alg.now.order.vars ≡ 3 }
+{
+    let basis = three(alloc, alg, elements)?;
+    let h = poly(alloc, alg.field(), alg.order(), h)?;
+    let reduced = match kind {
+        "lead" => reduce(alloc, alg, &basis, h)?,
+        _ => reduce_tail(alloc, alg, &basis, &h)?,
+    };
+    Ok(reduced_text(alloc, &reduced)?)
+}
+
+// What is reduced, its leading term or its tail; three elements; a polynomial; and its steps, what they leave, and
+// whether a step was left.
 const REDUCTIONS: &str = "\
-lead|1:110|1:010|0:000|1:120|1:010:1 6:000:2 |
-lead|0:000|1:110|1:010|1:120|1:010:2 6:000:3 |
-lead|2:110|1:001|0:000|1:120 1:001|4:010:1 |6:010 1:001 
-lead|1:001|1:001|0:000|1:100 1:001||1:100 1:001 
-tail|1:100 6:010|1:010 6:001|1:001 6:000|1:100 6:010|6:000:2 6:000:3 |1:100 6:000 
-tail|1:001|1:010|1:110|1:110 1:010 1:001|1:000:2 1:000:1 |1:110 ";
+lead/1:110;1:010;0:000/1:120/1:010:1 6:000:2 ||false
+lead/0:000;1:110;1:010/1:120/1:010:2 6:000:3 ||false
+lead/2:110;1:001;0:000/1:120 1:001/4:010:1 |6:010 1:001 |false
+lead/1:001;1:001;0:000/1:100 1:001/|1:100 1:001 |false
+tail/1:100 6:010;1:010 6:001;1:001 6:000/1:100 6:010/6:000:2 6:000:3 |1:100 6:000 |false
+tail/1:001;1:010;1:110/1:110 1:010 1:001/1:000:2 1:000:1 |1:110 |false";
 
 #[test]
 fn reduces_leading_terms_and_tails(rt: HostRuntime) -> Result<(), Fail> {
     let alloc = rt.alloc();
     let alg = weyl(alloc)?;
     for row in REDUCTIONS.lines() {
-        let fields: Vec<&str> = row.split('|').collect(alloc)?;
-        let [kind, first, second, third, h, trace, rest] = fields.as_slice() else {
-            return Err("a row has seven fields".into());
+        let fields: Vec<&str> = row.split('/').collect(alloc)?;
+        let [kind, elements, h, want] = fields.as_slice() else {
+            return Err("a row has four fields".into());
         };
-        let (field, order) = (alg.field(), alg.order());
-        let first = poly(alloc, field, order, first)?;
-        let second = poly(alloc, field, order, second)?;
-        let third = poly(alloc, field, order, third)?;
-        let h = poly(alloc, field, order, h)?;
-        let basis = Vec::from_array(alloc, [first, second, third]).map_err(AllocError::from)?;
-        let reduced = match *kind {
-            "lead" => reduce(alloc, &alg, &basis, h)?,
-            _ => reduce_tail(alloc, &alg, &basis, &h)?,
-        };
-        assert!(rt; !reduced.over);
-        assert_eq!(rt;
-            trace_text(alloc, &reduced.trace)?.as_str(),
-            *trace,
-            "{row}"
-        );
-        assert_eq!(rt; poly_text(alloc, &reduced.rest)?.as_str(), *rest, "{row}");
+        let got = reduction(alloc, &alg, kind, elements, h)?;
+        assert_eq!(rt; got.as_str(), *want, "{row}");
     }
     Ok(())
 }
@@ -165,24 +217,37 @@ fn power(alloc: Global, alg: &Algebra, x: u16, y: u16, z: u16) -> Result<GPoly, 
 }
 
 #[test]
-fn makes_no_product_of_high_degree(rt: HostRuntime) -> Result<(), Fail> {
+fn starts_within_the_degree(rt: HostRuntime) -> Result<(), Fail> {
     let alloc = rt.alloc();
-    // x is above all powers of y and z.
+    let alg = weyl(alloc)?;
+    let f = power(alloc, &alg, 3000, 0, 0)?;
+    let g = power(alloc, &alg, 0, 0, 3000)?;
+    let basis = two(alloc, &alg, f, g)?;
+    match start_of(alloc, &alg, &basis, &[], &Job::Pair { i: 1, j: 2 }) {
+        Ok(_) => Err("the degrees add up to 6000".into()),
+        Err(ProductFault::DegreeOver) => Ok(()),
+        Err(ProductFault::Memory) => Err("there is memory".into()),
+    }
+}
+
+// The polynomial ring in which x is above all powers of y and z.
+fn blocks(alloc: Global) -> Result<Algebra, Fail>
+    ensures { IfOk result (λ a. a.order.vars ≡ 3) }
+{
     let blocks = [Block::DegRev { len: 1 }, Block::DegRev { len: 2 }];
     let order = Order::new(alloc, &blocks, 3)?;
     let ring = Algebra::commuting(alloc, Field::of(7)?, order, 3)?;
-    let f = power(alloc, &ring, 3000, 0, 0)?;
-    let g = power(alloc, &ring, 0, 3000, 0)?;
-    if f.is_zero() || g.is_zero() {
-        return Err("the elements are not zero".into());
-    }
+    Ok(ring)
+}
+
+// x y^2000, where x - y^3000 would cancel it.
+#[test]
+fn reduces_within_the_degree(rt: HostRuntime) -> Result<(), Fail> {
+    let alloc = rt.alloc();
+    let ring = blocks(alloc)?;
     let x = power(alloc, &ring, 1, 0, 0)?;
-    let element = x.sub(alloc, ring.field(), ring.order(), &g)?;
-    let basis = Vec::from_array(alloc, [f, g]).map_err(AllocError::from)?;
-    match start_of(alloc, &ring, &basis, &[], &Job::Pair { i: 1, j: 2 }) {
-        Ok(_) => return Err("the degrees add up to 6000".into()),
-        Err(fault) => assert!(rt; matches!(fault, ProductFault::DegreeOver)),
-    }
+    let y = power(alloc, &ring, 0, 3000, 0)?;
+    let element = x.sub(alloc, ring.field(), ring.order(), &y)?;
     let basis = Vec::from_array(alloc, [element]).map_err(AllocError::from)?;
     let h = power(alloc, &ring, 1, 2000, 0)?;
     let reduced = reduce(alloc, &ring, &basis, h)?;

@@ -74,7 +74,7 @@ loop-target-preserved g c =
       sorted = next_step-sorted a ok G c.requires.sorted rest (tail_target G rest) c.in-Step.step c.in-Step.left so_far.sorted (stepped g at);
       low = (fewer g at).0;
       value =
-          one_more (reduce_tail a G) (reduce_tail a G c.in_ok-rest.rest) c.loop-target.trace rest (next_step a G rest (tail_target G rest))
+          one_more (reduce_tail a G) (reduce_tail a G c.in_ok-rest.rest) c.loop-target.steps rest (next_step a G rest (tail_target G rest))
           so_far.value (reduce_tail-next a ok G c.requires.sorted rest so_far.sorted) c.in-Step.step c.in-Step.left (stepped g at)
           ∙ ap (λ steps. after_steps steps (reduce_tail a G c.in-Step.left)) (sym c.in_ok-push-in-Step.ensures);
     }
@@ -86,7 +86,7 @@ returns-in-Over-clause-value g c =
     let rest = c.loop-target.rest in
     let so_far = c.loop-target.invariant in
     let over : next_step a G rest (tail_target G rest) ≡ Undefined = ap (next_step a G rest) c.in-Some.ensures ∙ c.in_ok-step.ensures ∙ ap next_of c.in-Over.is in
-    sym (at_over (reduce_tail a G) (reduce_tail a G c.in_ok-rest.rest) c.loop-target.trace rest (next_step a G rest (tail_target G rest))
+    sym (at_over (reduce_tail a G) (reduce_tail a G c.in_ok-rest.rest) c.loop-target.steps rest (next_step a G rest (tail_target G rest))
     so_far.value (reduce_tail-next a c.n-n.ensures.accepted G c.requires.sorted rest so_far.sorted) over)
     ∙ ap (reduce_tail a G) c.in_ok-rest.ensures
 
@@ -97,6 +97,6 @@ returns-clause-value g c =
     let rest = c.loop-target.rest in
     let so_far = c.loop-target.invariant in
     let none : next_step a G rest (tail_target G rest) ≡ Ends = ap (next_step a G rest) c.in_default.ensures in
-    sym (at_end (reduce_tail a G) (reduce_tail a G c.in_ok-rest.rest) c.loop-target.trace rest (next_step a G rest (tail_target G rest))
+    sym (at_end (reduce_tail a G) (reduce_tail a G c.in_ok-rest.rest) c.loop-target.steps rest (next_step a G rest (tail_target G rest))
     so_far.value (reduce_tail-next a c.n-n.ensures.accepted G c.requires.sorted rest so_far.sorted) none)
     ∙ ap (reduce_tail a G) c.in_ok-rest.ensures

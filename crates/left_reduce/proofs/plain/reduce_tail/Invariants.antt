@@ -10,7 +10,7 @@ abbrev pub invariant-loop-target : goal.invariant-loop-target
 invariant-loop-target g l = record {
   sorted : IsPolynomial l.alg.p l.alg.order l.rest;
   low : poly_degree l.rest ≤ max degree_limit (poly_degree l.initial.rest);
-  value : reduce_tail l.alg (g.B.Elements.elements l.basis) l.initial.rest ≡ after_steps l.trace (reduce_tail l.alg (g.B.Elements.elements l.basis) l.rest);
+  value : reduce_tail l.alg (g.B.Elements.elements l.basis) l.initial.rest ≡ after_steps l.steps (reduce_tail l.alg (g.B.Elements.elements l.basis) l.rest);
 }
 
 abbrev pub decreases-loop-target : goal.decreases-loop-target

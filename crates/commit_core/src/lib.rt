@@ -9,6 +9,8 @@ use std::alloc::{AllocError, Global};
 
 mod queue;
 mod state;
+#[cfg(test)]
+mod tests;
 
 /// An engine on one thread: the plain program of the machine, over plain lists.
 #[derive(Debug, Drop)]

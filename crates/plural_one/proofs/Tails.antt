@@ -52,5 +52,5 @@ module _ (A : Algebra) (ok : IsAccepted A) (K : List Polynomial) (elements : Eac
   reduce_tail-element (t ∷ f) nonzero is = (
     reduce_tail-sorted A ok K elements (t ∷ f) is,
     λ none. (let left : (r : Polynomial) × ((steps_within A K (tail_target K) (enough_steps A.order.vars (t ∷ f)) (t ∷ f)).rest ≡ t ∷ r) = steps_leave (enough_steps A.order.vars (t ∷ f)) t f is in
-    let no : t ∷ left.0 ≡ [] = sym left.1 ∙ none in cc),
+        let no : t ∷ left.0 ≡ [] = sym left.1 ∙ none in cc),
   )

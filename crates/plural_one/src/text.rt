@@ -10,7 +10,8 @@ use monomials::Expo;
 use prime_field::Field;
 use std::alloc::{AllocError, Global};
 
-/// The text of an ideal: its generators, a line for each, with their numbers behind the label.
+/// The text of an ideal: a line for each generator, with the label and its number, counted from 1, in
+/// front; where there is none, a line for zero with the number 1.
 pub fn ideal_text(
     alloc: Global,
     field: Field,

@@ -1,9 +1,10 @@
 //! Worked lists. A polynomial in x, y and z is a text of its terms, each a number and the three
 //! digits of its exponents.
 
-ghost use Rattle.std.specs.Prelude.{◌≡◌, ◌≢◌, ◌≤◌, length, IfOk};
+ghost use Rattle.std.specs.Prelude.{◌≡◌, ◌≤◌, length, IfOk};
 ghost use Rattle.monomials.specs.Monomials.{degree};
 ghost use Rattle.monomials.specs.Polynomials.{Each, IsPolynomial};
+ghost use Rattle.word_model.specs.Machine.{IsElement};
 
 use super::*;
 use algebra::Relations;
@@ -127,25 +128,58 @@ fn worked_lists(rt: HostRuntime) -> Result<(), Fail> {
             return Err("a row has three fields".into());
         };
         let algebra = algebra(alloc, d)?;
-        let basis = basis(alloc, &algebra, elements)?;
-        if basis.len() > 2048 {
-            return Err("a basis is short".into());
-        }
-        let finished = reduced(alloc, &algebra, &basis)?;
-        let want: Vec<&str> = list.split(',').collect(alloc)?;
-        assert_eq!(rt; finished.list.len(), want.len());
-        for (place, item) in want.iter().enumerate() {
-            let parts: Vec<&str> = item.split(';').collect(alloc)?;
-            let [polynomial, origin, tail] = parts.as_slice() else {
-                return Err("an item has three parts".into());
-            };
-            let polynomial = poly(alloc, algebra.field(), algebra.order(), polynomial)?;
-            let found = finished.list.get(place).ok_or("the list is long enough")?;
-            assert!(rt; found.equals(&polynomial), "{item}: {found:?}");
-            assert_eq!(rt; finished.origin.get(place), Some(&origin.parse::<u32>()?));
-            let found = finished.tails.get(place).ok_or("each element has a tail")?;
-            assert_eq!(rt; found.steps(), steps(alloc, tail)?.as_slice());
-        }
+        let finished = finished_list(alloc, &algebra, elements)?;
+        assert_eq!(rt; finished.list.len(), list.split(',').count());
+        assert!(rt; has_items(alloc, &algebra, &finished, list)?, "{row}");
     }
     Ok(())
+}
+
+// The finished list of the basis of a text.
+fn finished_list(alloc: Global, algebra: &Algebra, elements: &str) -> Result<Finished, Fail>
+    requires { algebra.now.order.vars ≡ 3 }
+{
+    let basis = basis(alloc, algebra, elements)?;
+    if basis.len() > 2048 {
+        return Err("a basis is short".into());
+    }
+    Ok(reduced(alloc, algebra, &basis)?)
+}
+
+// Whether these items are the first of the list.
+fn has_items(
+    alloc: Global,
+    algebra: &Algebra,
+    finished: &Finished,
+    items: &str,
+) -> Result<bool, Fail>
+    requires { algebra.now.order.vars ≡ 3 }
+{
+    for (place, item) in items.split(',').enumerate() {
+        if !has_item(alloc, algebra, finished, place, item)? {
+            return Ok(false);
+        }
+    }
+    Ok(true)
+}
+
+// Whether the list has this item at this place.
+fn has_item(
+    alloc: Global,
+    algebra: &Algebra,
+    finished: &Finished,
+    place: usize,
+    item: &str,
+) -> Result<bool, Fail>
+    requires { algebra.now.order.vars ≡ 3 }
+{
+    let (polynomial, others) = item.split_once(';').ok_or("an item has three parts")?;
+    let (origin, tail) = others.split_once(';').ok_or("an item has three parts")?;
+    let polynomial = poly(alloc, algebra.field(), algebra.order(), polynomial)?;
+    let origin = origin.parse::<u32>()?;
+    let tail = steps(alloc, tail)?;
+    let found = finished.list.get(place).ok_or("the list is too short")?;
+    let number = finished.origin.get(place).ok_or("an origin is missing")?;
+    let trace = finished.tails.get(place).ok_or("a tail is missing")?;
+    Ok(found.equals(&polynomial) && *number == origin && trace.steps() == tail.as_slice())
 }

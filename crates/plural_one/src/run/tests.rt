@@ -39,7 +39,7 @@ fn assert_answer(
     Ok(())
 }
 
-// The characteristic, the factor and the constant of a relation, a product, the status, and the line of text.
+// The characteristic, the factor and the constant of a relation, a request, the status, and the line of text.
 const SCRIPTS: &str = "\
 7 1 1 d*x 0 x*d+1
 2 1 1 d*d*x 0 x*d^2
@@ -62,6 +62,15 @@ const SCRIPTS: &str = "\
 7 7 1 d*x 3 ? line 2: Coefficient 1 2
 7 0 0 x 3 ? line 2: Coefficient 1 2
 65521 131042 1 d*x 3 ? line 2: Coefficient 1 2
+7 1 1 std(x*d,d*d) 0 _[1]=d
+7 1 1 std(x,d) 0 _[1]=1
+7 1 1 std(d*x) 0 _[1]=x*d+1
+7 1 1 std(x*d,x) 0 _[1]=1
+7 2 0 std(d*x) 0 _[1]=x*d
+2 1 1 std(d*d*x) 0 _[1]=x*d^2
+7 1 1 std(x,x,x,x,x,x,x,x) 0 _[1]=x
+4 1 1 std(x*d,d*d) 1 ? line 1: Characteristic 4
+7 7 1 std(x*d,d*d) 3 ? line 2: Coefficient 1 2
 ";
 
 #[test]
@@ -69,11 +78,11 @@ fn answers_scripts(rt: HostRuntime) -> Result<(), Fail> {
     let alloc = rt.alloc();
     for row in SCRIPTS.lines() {
         let fields: Vec<&str> = row.splitn(6, ' ').collect(alloc)?;
-        let [p, c, e, product, status, text] = fields.as_slice() else {
+        let [p, c, e, request, status, text] = fields.as_slice() else {
             return Err("a row has six fields".into());
         };
         let script = format!(in alloc;
-            "ring r = {p},(x,d),dp;\ndef W = nc_algebra({c},{e}); setring W;\n{product};\n"
+            "ring r = {p},(x,d),dp;\ndef W = nc_algebra({c},{e}); setring W;\n{request};\n"
         )?;
         let line = format!(in alloc; "{text}\n")?;
         assert_answer(&rt, script.as_bytes(), status.parse()?, line.as_str())?;
@@ -99,7 +108,13 @@ ring r = 7,(x,d),dp;|def W = nc_algebra(1,1); setring W;|;|
 ring r = 7,(x,d),dp;|def W = nc_algebra(1,1); setring W;|d*x*;|
 ring r = 7,(x,d),dp;|def W = nc_algebra(1,1); setring W;|dx;|
 ring r = 7,(x,d),dp;|def W = nc_algebra(1,1); setring W;|d*y;|
-ring r = 7,(x,d),dp;|def W = nc_algebra(1,1); setring W;|std(d*x);|
+ring r = 7,(x,d),dp;|def W = nc_algebra(1,1); setring W;|std();|
+ring r = 7,(x,d),dp;|def W = nc_algebra(1,1); setring W;|std(x,);|
+ring r = 7,(x,d),dp;|def W = nc_algebra(1,1); setring W;|std(x;|
+ring r = 7,(x,d),dp;|def W = nc_algebra(1,1); setring W;|std(x)|
+ring r = 7,(x,d),dp;|def W = nc_algebra(1,1); setring W;|std(x, d);|
+ring r = 7,(x,d),dp;|def W = nc_algebra(1,1); setring W;|x,d;|
+ring r = 7,(x,d),dp;|def W = nc_algebra(1,1); setring W;|std(x,x,x,x,x,x,x,x,x);|
 ";
 
 #[test]
@@ -127,6 +142,13 @@ fn takes_64_letters(rt: HostRuntime) -> Result<(), Fail> {
     assert_answer(&rt, most.as_bytes(), 0, "x^64\n")?;
     let one_more = format!(in alloc; "{lines}{letters}x*x;\n")?;
     assert_answer(&rt, one_more.as_bytes(), 1, "? Form\n")?;
+    Ok(())
+}
+
+#[test]
+fn lists_generators_in_ascending_order(rt: HostRuntime) -> Result<(), Fail> {
+    let script = "ring r = 7,(x,d),dp;\ndef W = nc_algebra(3,0); setring W;\nstd(x*x,d*x,d*d);\n";
+    assert_answer(&rt, script.as_bytes(), 0, "_[1]=d^2\n_[2]=x*d\n_[3]=x^2\n")?;
     Ok(())
 }
 

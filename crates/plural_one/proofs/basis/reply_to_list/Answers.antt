@@ -1,4 +1,4 @@
-use Rattle.std.proofs.Common.{◌≡◌, Some, sym, subst}
+use Rattle.std.proofs.Common.{subst}
 use Rattle.monomials.specs.Polynomials.{Each, HasNumbers, HasVars}
 use Rattle.plural_one.proofs.Bases.{finished-numbers, finished-vars}
 use Rattle.plural_one.proofs.basis.reply_to_list.Goals as goal

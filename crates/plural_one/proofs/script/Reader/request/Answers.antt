@@ -1,4 +1,4 @@
-use Rattle.std.proofs.Common.{◌≡◌, ◌∙◌, None, Some, map, ap}
+use Rattle.std.proofs.Common.{◌≡◌, ◌∙◌, None, Some, map}
 use Rattle.plural_one.specs.Readings.{read_words}
 use Rattle.plural_one.proofs.ProductLists.{request_of_basis}
 use Rattle.plural_one.proofs.script.Reader.request.Goals as goal

@@ -1,8 +1,7 @@
-use Rattle.std.proofs.Common.{◌≡◌, ◌<◌, ◌≤◌, ◌∷◌, ◌++◌, [], ℕ, List, None, Some, map, length, arith, ap, sym, ◌∙◌}
+use Rattle.std.proofs.Common.{◌≡◌, ◌<◌, ◌≤◌, ◌∷◌, ◌++◌, [], List, None, Some, map, length, arith, ap, ◌∙◌}
 use Rattle.std.proofs.lemmas.List.{length_push, length-map, map-append}
 use Rattle.word_model.specs.Words.{Word}
 use Rattle.plural_one.specs.Readings.{read_word, read_words}
-use Rattle.plural_one.proofs.Letters.{in_front}
 use Rattle.plural_one.proofs.ProductLists.{words_stop, words_go_on, words_end, words_full}
 use Rattle.plural_one.proofs.script.Reader.words.Goals as goal
 

@@ -215,9 +215,10 @@ fn reads_and_bounds(rt: HostRuntime) -> Result<(), Fail> {
     Ok(())
 }
 
-#[test]
-fn sorts_relations_anew(rt: HostRuntime) -> Result<(), Fail> {
-    let alloc = rt.alloc();
+// The algebra sl2 in e, f and h, over the field with 32003 elements.
+fn sl2(alloc: Global) -> Result<Algebra, Fail>
+    ensures { IfOk result (λ a. a.order.vars ≡ 3) }
+{
     let field = Field::of(32003)?;
     let sl2 = algebra(
         alloc,
@@ -226,30 +227,54 @@ fn sorts_relations_anew(rt: HostRuntime) -> Result<(), Fail> {
         "1 1 1",
         ["32002:001", "2:100", "32001:010"],
     )??;
-    let h_first = order(alloc, "dp")?.with_extra(alloc, &[3])?;
-    let fault = sl2.reordered(alloc, &h_first);
+    Ok(sl2)
+}
+
+#[test]
+fn no_order_of_sl2_has_h_in_front(rt: HostRuntime) -> Result<(), Fail> {
+    let sl2 = sl2(rt.alloc())?;
+    let h_first = sl2.order().with_extra(rt.alloc(), &[3])?;
+    let fault = sl2.reordered(rt.alloc(), &h_first);
     assert!(rt; matches!(fault, Err(AlgebraFault::Ordering { i: 1, j: 2 })));
-    let by_lp = sl2.reordered(alloc, &order(alloc, "lp")?)?;
-    assert!(rt; !by_lp.same(&sl2));
-    assert!(rt; by_lp.reordered(alloc, &order(alloc, "dp")?)?.same(&sl2));
-    let ring = Algebra::commuting(alloc, field, order(alloc, "dp")?, 3)?;
-    let t_first = order(alloc, "dp")?.with_extra(alloc, &[1])?;
-    assert!(rt; ring.reordered(alloc, &t_first).is_ok());
     Ok(())
 }
 
 #[test]
+fn sorts_relations_anew_and_back(rt: HostRuntime) -> Result<(), Fail> {
+    let sl2 = sl2(rt.alloc())?;
+    let by_lp = sl2.reordered(rt.alloc(), &order(rt.alloc(), "lp")?)?;
+    let by_dp = by_lp.reordered(rt.alloc(), sl2.order())?;
+    assert!(rt; by_dp.same(&sl2) && !by_lp.same(&sl2));
+    Ok(())
+}
+
+#[test]
+fn variables_that_commute_take_any_order(rt: HostRuntime) -> Result<(), Fail> {
+    let field = Field::of(101)?;
+    let ring = Algebra::commuting(rt.alloc(), field, order(rt.alloc(), "dp")?, 3)?;
+    let t_first = ring.order().with_extra(rt.alloc(), &[1])?;
+    assert!(rt; ring.reordered(rt.alloc(), &t_first).is_ok());
+    Ok(())
+}
+
+// An order, a polynomial that dp sorts, and whether it is one over the field with 7 elements.
+const FITS: &str = "\
+dp|6:100 3:020|true
+lp|6:100 3:020|false
+dp|7:100|false
+lp|0:000|true";
+
+#[test]
 fn polynomials_fit(rt: HostRuntime) -> Result<(), Fail> {
     let alloc = rt.alloc();
-    let (seven, large) = (Field::of(7)?, Field::of(32003)?);
-    let by_dp = Algebra::commuting(alloc, seven, order(alloc, "dp")?, 3)?;
-    let by_lp = Algebra::commuting(alloc, seven, order(alloc, "lp")?, 3)?;
-    let f = poly(alloc, large, &order(alloc, "dp")?, "6:100 3:020")?;
-    assert!(rt; by_dp.fits(&f) && !by_lp.fits(&f));
-    let g = poly(alloc, large, &order(alloc, "dp")?, "7:100")?;
-    assert!(rt; !by_dp.fits(&g));
-    let two = Order::new(alloc, &[Block::Lex { len: 2 }], 2)?;
-    let plane = Algebra::commuting(alloc, seven, two, 2)?;
-    assert!(rt; !plane.fits(&f) && plane.fits(&GPoly::zero(alloc)));
+    for row in FITS.lines() {
+        let fields: Vec<&str> = row.split('|').collect(alloc)?;
+        let [name, f, want] = fields.as_slice() else {
+            return Err("a row has three fields".into());
+        };
+        let f = poly(alloc, Field::of(32003)?, &order(alloc, "dp")?, f)?;
+        let ring = Algebra::commuting(alloc, Field::of(7)?, order(alloc, name)?, 3)?;
+        assert_eq!(rt; ring.fits(&f), *want == "true");
+    }
     Ok(())
 }

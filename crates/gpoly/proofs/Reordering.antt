@@ -1,12 +1,10 @@
 -- The terms of a polynomial, sorted by another order.
-use Rattle.std.proofs.Common.{◌≡◌, ◌≢◌, ℕ, zero, suc, ◌<◌, Bool, true, false, nat_eq, List, [], ◌∷◌, length, refl, sym, ap, ◌∙◌, subst, arith, ℤ}
-use Rattle.std.proofs.Common.{Ordering, Less, Equal, Greater}
+use Rattle.std.proofs.Common.{◌≡◌, ◌≢◌, ℕ, zero, suc, ◌<◌, Bool, true, false, nat_eq, List, [], ◌∷◌, length, refl, sym, ap, ◌∙◌, arith, ℤ}
 use Rattle.std.specs.Bool.{Decides}
 use Rattle.std.specs.List.{AllByRecursion, IsDistinct}
 use Rattle.std.specs.List.Sorted.{IsPermutation}
 use Rattle.std.specs.Cmp.Lexicographic.{pointwise}
 use Rattle.std.proofs.lemmas.Cmp.{nat_list_eq_equiv}
-use Rattle.std.proofs.lemmas.List.Sorted.{length_permutation}
 use Rattle.std.proofs.lemmas.Map.Keys.{IsDistinct-IsPermutation}
 use Rattle.std.proofs.lemmas.Slice.Eq.{bytes_eq-Decides}
 use Rattle.monomials.specs.Monomials.{Monomial}
@@ -92,11 +90,14 @@ module _ (order : RowOrder) (f g : Polynomial) (terms : IsTermList f) (moved : I
   pub numbers_reordered : (p : ℕ) → HasNumbers p f → HasNumbers p g
   numbers_reordered p numbers = Each-IsPermutation (λ t. t.0 < p) f g moved numbers
 
+  pub vars_reordered : HasVars order.vars f → HasVars order.vars g
+  vars_reordered vars = Each-IsPermutation (λ t. length t.1 ≡ order.vars) f g moved vars
+
   pub sorted_reordered : HasVars order.vars f → (p : ℕ) → HasNumbers p f → IsPolynomial p order g
   sorted_reordered vars p numbers = record {
     canonical =
         IsCanonical-falling order.rows p g falls terms_reordered.apart terms_reordered.nonzero (numbers_reordered p numbers);
-    vars = Each-IsPermutation (λ t. length t.1 ≡ order.vars) f g moved vars;
+    vars = vars_reordered vars;
   }
 
   empty : (p : ℕ) → p ≡ 0 → (h : Polynomial) → HasNumbers p h → h ≡ []

@@ -1,5 +1,5 @@
 -- The terms of the program, as a polynomial.
-use Rattle.std.specs.Prelude.{ℕ, ◌<◌, ◌≤◌, List, [], ◌∷◌, map}
+use Rattle.std.specs.Prelude.{ℕ, ◌<◌, ◌≤◌, List, map}
 use Rattle.monomials.specs.Monomials.{Monomial, degree}
 use Rattle.monomials.specs.Polynomials.{Polynomial, Each, IsApart}
 use Rattle.gpoly.specs.declared.Term.{Term}

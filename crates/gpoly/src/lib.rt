@@ -171,6 +171,7 @@ impl GPoly {
         ensures sorted { IfOk result (λ r. (p : ℕ) → HasNumbers p self.now →
             IsPolynomial p order.now r) }
         ensures numbers { IfOk result (λ r. (p : ℕ) → HasNumbers p self.now → HasNumbers p r) }
+        ensures vars { IfOk result (λ r. HasVars order.now.vars r) }
         ensures map { IfOk result (λ r. (m : Monomial) →
             coefficient_at m r ≡ coefficient_at m self.now) }
     {

@@ -1,8 +1,8 @@
-use Rattle.std.proofs.Common.{◌≡◌, ◌∙◌, sym, ap, subst}
+use Rattle.std.proofs.Common.{◌∙◌, ap, subst}
 use Rattle.std.specs.List.Sorted.{IsPermutation}
 use Rattle.monomials.specs.Polynomials.{Polynomial}
 use Rattle.gpoly.specs.Terms.{pairs_of, IsTermList}
-use Rattle.gpoly.proofs.Reordering.{terms_reordered, numbers_reordered, sorted_reordered, value_reordered, map_reordered}
+use Rattle.gpoly.proofs.Reordering.{terms_reordered, numbers_reordered, sorted_reordered, value_reordered, vars_reordered, map_reordered}
 use Rattle.gpoly.proofs.GPoly.reorder.Goals as goal
 
 -- the sorted terms are those of the polynomial
@@ -33,3 +33,7 @@ returns-clause-numbers c =
 pub returns-clause-map : goal.returns-clause-map
 returns-clause-map c =
     map_reordered c.args.order.now c.args.self.now (pairs_of c.in_ok-terms.terms.items) (terms c) (moved c) c.in_ok-terms.ensures.falls
+
+pub returns-clause-vars : goal.returns-clause-vars
+returns-clause-vars c =
+    vars_reordered c.args.order.now c.args.self.now (pairs_of c.in_ok-terms.terms.items) (terms c) (moved c) c.in_ok-terms.ensures.falls c.requires

@@ -1,0 +1,4 @@
+pub mod Sums
+pub mod Binomials
+pub mod Shifts
+pub mod Passing

@@ -21,7 +21,8 @@ falling_product-above q zero (suc k) h = refl
 falling_product-above q (suc n) (suc k) h =
     ap (λ x. q_number q (suc n) * x) (falling_product-above q n k (omega arith)) ∙ omega arith
 
-one_pow : (k : ℕ) → 1 ^ k ≡ 1
+-- the powers of 1
+pub one_pow : (k : ℕ) → 1 ^ k ≡ 1
 one_pow zero = pow-zero 1
 one_pow (suc k) = pow-succ' 1 k ∙ omega (arith, one_pow k)
 
@@ -72,10 +73,32 @@ module _ (q : ℕ) where
         rw (za, zb, zsb, here, pow-add q a (a * b)) (omega arith)
 
     -- a later term, from two of b
-    pub weyl_number-next : (a b k : ℕ)
+    later : (a b k : ℕ)
         → weyl_number q delta (suc a) (suc b) (suc k) ≡ q ^ suc a * weyl_number q delta (suc a) b (suc k) + (delta * q_number q (suc a)) * weyl_number q delta a b k
-    weyl_number-next a b k =
+    later a b k =
         let ea : suc a - suc k ≡ a - k = omega arith in
         let eb : suc b - suc k ≡ b - k = omega arith in
         rw (ea, eb, pow-succ' delta k)
         (two_terms delta (delta ^ k) (q ^ suc a) (q ^ ((a - k) * (b - suc k))) (q ^ ((a - k) * (b - k))) (q ^ suc k) (gaussian q b k) (gaussian q b (suc k)) (q_number q (suc a)) (falling_product q a k) (powers_meet a b k))
+
+    pub weyl_number-next : (a b k : ℕ)
+        → weyl_number q delta a (suc b) (suc k) ≡ q ^ a * weyl_number q delta a b (suc k) + (delta * q_number q a) * weyl_number q delta (a - 1) b k
+    weyl_number-next zero b k = omega arith
+    weyl_number-next (suc a) b k = let e : suc a - 1 ≡ a = omega arith in rw e (later a b k)
+
+    -- at b = 0 there is one term
+    pub weyl_number-start : (a : ℕ) → weyl_number q delta a 0 0 ≡ 1
+    weyl_number-start a =
+        let e : (a - 0) * (0 - 0) ≡ 0 = omega arith in
+        rw (e, pow-zero q, pow-zero delta) refl
+
+    pub weyl_number-none : (a k : ℕ) → weyl_number q delta a 0 (suc k) ≡ 0
+    weyl_number-none a k = omega arith
+
+    -- there are no terms above a
+    pub weyl_number-above : (a b k : ℕ) → a < k → weyl_number q delta a b k ≡ 0
+    weyl_number-above a b k h = rw (falling_product-above q a k h) (omega arith)
+
+    -- and none above b
+    pub weyl_number-beyond : (a b k : ℕ) → b < k → weyl_number q delta a b k ≡ 0
+    weyl_number-beyond a b k h = rw (gaussian-above q b k h) (omega arith)

@@ -25,7 +25,8 @@ sorted_word-one : (i n : ℕ) → word_from i (replicate n 0) ≡ []
 sorted_word-one i zero = refl
 sorted_word-one i (suc n) = sorted_word-one (suc i) n
 
-power_is_word : (n v : ℕ) → 1 ≤ v → v ≤ n → (t : ℕ) → IsWord n (replicate t v)
+-- a power of a variable is a word
+pub power_is_word : (n v : ℕ) → 1 ≤ v → v ≤ n → (t : ℕ) → IsWord n (replicate t v)
 power_is_word n v low high zero = tt
 power_is_word n v low high (suc t) = ((low, high), power_is_word n v low high t)
 
@@ -104,7 +105,7 @@ module _ (A : Algebra) (paired : IsPaired A) (i j : ℕ) (low : 1 ≤ i) (ij : i
   IsWeylRule q delta =
       (s t : ℕ) (w : Word) → IsWord A.order.vars w → Same A.p (weight s t (j ∷ i ∷ w)) (q * weight s t (i ∷ j ∷ w) + delta * weight s t w)
 
-  weyl_rule : (q delta : ℕ) → c_of A i j ≡ q → ((ψ : Monomial → ℕ) → weigh ψ (d_of A i j) ≡ delta * ψ (one A.order.vars)) → IsWeylRule q delta
+  pub weyl_rule : (q delta : ℕ) → c_of A i j ≡ q → ((ψ : Monomial → ℕ) → weigh ψ (d_of A i j) ≡ delta * ψ (one A.order.vars)) → IsWeylRule q delta
   weyl_rule q delta number polynomial s t w word =
       let empty : sorted_word (one A.order.vars) ++ w ≡ w = ap (λ r. r ++ w) (sorted_word-one 1 A.order.vars) in
       let constant : weigh (λ m. weight s t (sorted_word m ++ w)) (d_of A i j) ≡ delta * weight s t w =
@@ -144,7 +145,7 @@ module _ (A : Algebra) (paired : IsPaired A) (i j : ℕ) (low : 1 ≤ i) (ij : i
   IsLeftRule alpha =
       (s t : ℕ) (w : Word) → IsWord A.order.vars w → Same A.p (weight s t (j ∷ i ∷ w)) (weight s t (i ∷ j ∷ w) + alpha * weight s t (i ∷ w))
 
-  left_rule : (alpha : ℕ) → c_of A i j ≡ 1 → d_of A i j ≡ (alpha, variable A.order.vars i) ∷ [] → IsLeftRule alpha
+  pub left_rule : (alpha : ℕ) → c_of A i j ≡ 1 → d_of A i j ≡ (alpha, variable A.order.vars i) ∷ [] → IsLeftRule alpha
   left_rule alpha number polynomial s t w word =
       let letter : sorted_word (variable A.order.vars i) ++ w ≡ i ∷ w = ap (λ r. r ++ w) (sorted_word-variable A.order.vars i low) in
       rewritten_xy s t w word
@@ -169,7 +170,7 @@ module _ (A : Algebra) (paired : IsPaired A) (i j : ℕ) (low : 1 ≤ i) (ij : i
   IsRightRule beta =
       (s t : ℕ) (w : Word) → IsWord A.order.vars w → Same A.p (weight s t (j ∷ i ∷ w)) (weight s t (i ∷ j ∷ w) + beta * weight s t (j ∷ w))
 
-  right_rule : (beta : ℕ) → c_of A i j ≡ 1 → d_of A i j ≡ (beta, variable A.order.vars j) ∷ [] → IsRightRule beta
+  pub right_rule : (beta : ℕ) → c_of A i j ≡ 1 → d_of A i j ≡ (beta, variable A.order.vars j) ∷ [] → IsRightRule beta
   right_rule beta number polynomial s t w word =
       let letter : sorted_word (variable A.order.vars j) ++ w ≡ j ∷ w = ap (λ r. r ++ w) (sorted_word-variable A.order.vars j (omega arith)) in
       rewritten_xy s t w word

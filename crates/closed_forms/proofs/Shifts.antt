@@ -18,6 +18,11 @@ shifted_alike p c zero f g e = e 0
 shifted_alike p c (suc n) f g e =
     same_add p _ _ _ _ (shifted_alike p c n (λ k. f (suc k)) (λ k. g (suc k)) (λ k. e (suc k))) (same_mul p c _ _ (shifted_alike p c n f g e))
 
+-- without a constant: z^n
+pub shifted-none : (n : ℕ) (f : ℕ → ℕ) → shifted 0 n f ≡ f n
+shifted-none zero f = refl
+shifted-none (suc n) f = omega (arith, shifted-none n (λ k. f (suc k)))
+
 -- a weight that is a sum
 shifted-lin : (c d n : ℕ) (f g : ℕ → ℕ) → shifted c n (λ k. f k + d * g k) ≡ shifted c n f + d * shifted c n g
 shifted-lin c d zero f g = refl

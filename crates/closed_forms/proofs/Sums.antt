@@ -1,5 +1,5 @@
 -- Sums over the numbers below n, and what the terms of a sum weigh.
-use Rattle.std.proofs.Common.{◌≡◌, ℕ, zero, suc, ◌+◌, ◌*◌, ◌%◌, ◌<◌, [], refl, sym, ap, ◌∙◌, arith}
+use Rattle.std.proofs.Common.{◌≡◌, ℕ, zero, suc, ◌+◌, ◌*◌, ◌%◌, ◌<◌, ◌≤◌, [], refl, sym, ap, ◌∙◌, arith}
 use Rattle.monomials.specs.Polynomials.{cons_nonzero}
 use Rattle.monomials.proofs.Modulo.{Same, same_refl, same_add, same_mul_right, same_rest}
 use Rattle.monomials.proofs.Weights.{weigh, weigh-append, weigh-cons_nonzero}
@@ -24,6 +24,12 @@ sum_below_equal (suc n) f g e = λ i. e 0 i + sum_below_equal n (λ k. f (suc k)
 pub sum_below_none : (n : ℕ) (f : ℕ → ℕ) → ((k : ℕ) → f k ≡ 0) → sum_below n f ≡ 0
 sum_below_none zero f e = refl
 sum_below_none (suc n) f e = omega (arith, e 0, sum_below_none n (λ k. f (suc k)) (λ k. e (suc k)))
+
+-- a sum whose later numbers are zero
+pub sum_below-cut : (n m : ℕ) (f : ℕ → ℕ) → n ≤ m → ((k : ℕ) → n ≤ k → f k ≡ 0) → sum_below m f ≡ sum_below n f
+sum_below-cut zero m f h e = sum_below_none m f (λ k. e k (omega arith))
+sum_below-cut (suc n) zero f h e = absurd (omega arith)
+sum_below-cut (suc n) (suc m) f h e = ap (λ x. f 0 + x) (sum_below-cut n m (λ k. f (suc k)) (omega arith) (λ k l. e (suc k) (omega arith)))
 
 -- a multiple of one sum and a multiple of another, number by number
 pub sum_below-lin : (c d n : ℕ) (f g : ℕ → ℕ) → sum_below n (λ k. c * f k + d * g k) ≡ c * sum_below n f + d * sum_below n g

@@ -1,5 +1,5 @@
 pub mod Sums
-pub mod Binomials
+pub mod Pascal
 pub mod Shifts
 pub mod Passing
 pub mod Powers

@@ -5,7 +5,7 @@ use Rattle.monomials.proofs.Modulo.{Same, same_refl, same_add, same_mul}
 use Rattle.closed_forms.specs.Binomials.{gaussian}
 use Rattle.closed_forms.specs.Forms.{binomial_number}
 use Rattle.closed_forms.proofs.Sums.{sum_below, sum_below_equal, sum_below_none, sum_below-lin}
-use Rattle.closed_forms.proofs.Binomials.{gaussian-above, binomial-step}
+use Rattle.closed_forms.proofs.Pascal.{gaussian-above, binomial-step}
 
 -- the weight of (z + c)^n, where z^k weighs f k
 abbrev pub shifted : ℕ → ℕ → (ℕ → ℕ) → ℕ
@@ -77,7 +77,7 @@ binomial_theorem c zero (suc m) f h =
 binomial_theorem c (suc n) zero f h = absurd (omega arith)
 binomial_theorem c (suc n) (suc m) f h =
     let rest : sum_below m (λ k. binomial_number c (suc n) (suc k) * f (suc n - suc k))
-        ≡ 1 * sum_below m (λ k. binomial_number c n (suc k) * f (suc n - suc k)) + c * sum_below m (λ k. binomial_number c n k * f (n - k)) =
+    ≡ 1 * sum_below m (λ k. binomial_number c n (suc k) * f (suc n - suc k)) + c * sum_below m (λ k. binomial_number c n k * f (n - k)) =
     sum_below_equal m _ _ (λ k. next_term c n k f) ∙ sum_below-lin 1 c m (λ k. binomial_number c n (suc k) * f (suc n - suc k)) (λ k. binomial_number c n k * f (n - k)) in
     let times : shifted c n (λ k. f (suc k)) ≡ binomial_number c n 0 * f (suc n - 0) + sum_below m (λ k. binomial_number c n (suc k) * f (suc n - suc k)) =
     binomial_theorem c n (suc m) (λ k. f (suc k)) (omega arith) ∙ sum_below_equal (suc m) _ _ (λ k. times_term c n k f) in

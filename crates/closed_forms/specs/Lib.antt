@@ -1,3 +1,4 @@
 pub mod Kinds
 pub mod Binomials
 pub mod Forms
+pub mod Paths

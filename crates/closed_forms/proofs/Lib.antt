@@ -4,3 +4,6 @@ pub mod Shifts
 pub mod Passing
 pub mod Powers
 pub mod Normal
+pub mod Tables
+pub mod Residues
+pub mod Lucas

@@ -1,9 +1,9 @@
 -- Sums over the numbers below n, and what the terms of a sum weigh.
-use Rattle.std.proofs.Common.{◌≡◌, ℕ, zero, suc, ◌+◌, ◌*◌, ◌%◌, ◌<◌, ◌≤◌, [], refl, sym, ap, ◌∙◌, arith}
+use Rattle.std.proofs.Common.{◌≡◌, ℕ, zero, suc, ◌+◌, ◌*◌, ◌%◌, ◌<◌, ◌≤◌, [], ◌++◌, refl, sym, ap, ◌∙◌, arith}
 use Rattle.monomials.specs.Polynomials.{cons_nonzero}
 use Rattle.monomials.proofs.Modulo.{Same, same_refl, same_add, same_mul_right, same_rest}
 use Rattle.monomials.proofs.Weights.{weigh, weigh-append, weigh-cons_nonzero}
-use Rattle.closed_forms.specs.Forms.{Powers, sum_of_terms}
+use Rattle.closed_forms.specs.Forms.{Powers, Terms, sum_of_terms}
 
 -- f 0 + f 1 + .. + f (n - 1)
 abbrev pub sum_below : ℕ → (ℕ → ℕ) → ℕ
@@ -45,3 +45,15 @@ weigh-sum_of_terms p φ c at (suc n) =
     same_refl p _ _ (weigh-append φ (sum_of_terms p c at n) (cons_nonzero (c n % p) (at n) []) ∙ ap (λ x. weigh φ (sum_of_terms p c at n) + x) last)
     ∙ same_add p _ _ _ _ (weigh-sum_of_terms p φ c at n) (same_mul_right p (φ (at n)) _ _ (same_rest p (c n)))
     ∙ same_refl p _ _ (sym (sum_below-last n (λ k. c k * φ (at k))))
+
+-- one term more
+pub sum_of_terms_more : (p : ℕ) (c : ℕ → ℕ) (at : ℕ → Powers) (n x : ℕ) (m : Powers) (f g : Terms) → f ≡ sum_of_terms p c at n → x ≡ c n % p → m ≡ at n
+    → g ≡ f ++ cons_nonzero x m [] → g ≡ sum_of_terms p c at (n + 1)
+sum_of_terms_more p c at n x m f g whole number place more =
+    let e : n + 1 ≡ suc n = omega arith in
+    rw e (more ∙ (λ i. whole i ++ cons_nonzero (number i) (place i) []))
+
+-- sums of the same numbers
+pub sum_of_terms_alike : (p : ℕ) (c d : ℕ → ℕ) (at : ℕ → Powers) (n : ℕ) → ((k : ℕ) → Same p (c k) (d k)) → sum_of_terms p c at n ≡ sum_of_terms p d at n
+sum_of_terms_alike p c d at zero e = refl
+sum_of_terms_alike p c d at (suc n) e = λ i. sum_of_terms_alike p c d at n e i ++ cons_nonzero (e n i) (at n) []

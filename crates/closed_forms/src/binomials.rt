@@ -13,6 +13,7 @@ pub fn power(field: Field, base: u32, exponent: u32) -> u32
     ensures value { result ≡ base ^ exponent % field }
     ensures in_range { result < field }
 {
+    let _p = field.p();
     let (mut square, mut rest, mut result) = (base, exponent, 1);
     while rest > 0 {
         if rest % 2 == 1 {
@@ -30,6 +31,7 @@ pub fn q_numbers(alloc: Global, field: Field, q: u32, n: usize) -> Result<Vec<u3
     requires reach { n ≤ 4095 }
     ensures { IfOk result (λ r. r.items ≡ table field (q_number q) (suc n)) }
 {
+    let _p = field.p();
     let mut numbers = Vec::with_capacity(alloc, n + 1)?;
     let mut number = 0;
     for _ in 0..n + 1 {

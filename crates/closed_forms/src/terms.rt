@@ -145,13 +145,22 @@ fn along(
     let mut terms = Vec::with_capacity(alloc, numbers.len())?;
     for k in 0..numbers.len() as u16 {
         let coef = numbers[usize::from(k)];
-        match path {
-            Path::X => push_nonzero(&mut terms, coef, x - k, y)?,
-            Path::Y => push_nonzero(&mut terms, coef, x, y - k)?,
-            Path::Both => push_nonzero(&mut terms, coef, x - k, y - k)?,
-        }
+        let (x, y) = place(path, x, y, k);
+        push_nonzero(&mut terms, coef, x, y)?;
     }
     Ok(terms)
+}
+
+// The exponents of term k.
+fn place(path: Path, x: u16, y: u16, k: u16) -> (u16, u16)
+    requires { k ≤ last_place path x y }
+    ensures { result ≡ place path x y k }
+{
+    match path {
+        Path::X => (x - k, y),
+        Path::Y => (x, y - k),
+        Path::Both => (x - k, y - k),
+    }
 }
 
 // Adds a term at the end, unless its number is zero.

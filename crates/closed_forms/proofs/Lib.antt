@@ -7,3 +7,4 @@ pub mod Normal
 pub mod Tables
 pub mod Residues
 pub mod Lucas
+pub mod Digits

@@ -111,16 +111,24 @@ fn next_row(
     requires high { high.now ≡ table field (gaussian 1 (n / base)) (suc (top / base)) }
     ensures { IfOk result (λ r. r.items ≡ table field (gaussian q n) (suc top)) }
 {
+    let _p = field.p();
     let low = digit_row(alloc, field, q, n % base, top)?;
     let mut row = Vec::with_capacity(alloc, top + 1)?;
     for k in 0..top + 1 {
-        let digit = match low.get(k % base) {
-            Some(number) => *number,
-            None => 0,
-        };
+        let digit = number_at(&low, k % base);
         row.push(field.mul(high[k / base], digit))?;
     }
     Ok(row)
+}
+
+// The number at k, and 0 past the end.
+fn number_at(numbers: &[u32], k: usize) -> u32
+    ensures { result ≡ slice_index numbers.now k }
+{
+    match numbers.get(k) {
+        Some(number) => *number,
+        None => 0,
+    }
 }
 
 // The Gaussian binomials [n,k]_q, for k from 0 to the lesser of n and `top`, where none of
@@ -138,12 +146,14 @@ fn digit_row(
     ensures { IfOk result (λ r. r.items ≡ table field (gaussian q n) (suc (min n top))) }
 {
     let numbers = q_numbers(alloc, field, q, n)?;
+    let _p = field.p();
     let top = n.min(top);
     let mut row = Vec::with_capacity(alloc, top + 1)?;
     let mut entry = 1;
     row.push(entry)?;
     for k in 0..top {
-        entry = field.mul(entry, field.mul(numbers[n - k], field.inv(numbers[k + 1])));
+        let quotient = field.mul(numbers[n - k], field.inv(numbers[k + 1]));
+        entry = field.mul(entry, quotient);
         row.push(entry)?;
     }
     Ok(row)

@@ -8,7 +8,7 @@ use Rattle.word_model.specs.Conditions.{IsField}
 use Rattle.closed_forms.specs.Binomials.{q_number, gaussian, table, IsFree, IsBase}
 use Rattle.closed_forms.proofs.Pascal.{gaussian-above}
 use Rattle.closed_forms.proofs.Residues.{same_times}
-use Rattle.closed_forms.proofs.Tables.{at_table, past_table}
+use Rattle.closed_forms.proofs.Tables.{length-table, at_table, past_table}
 use Rattle.closed_forms.proofs.Lucas.{split}
 
 -- quotients keep the order
@@ -88,3 +88,25 @@ row_of_none p n top scale xs above_one past within is =
     let a : n / scale ≡ 0 = div-eq_of_lt past in
     let b : top / scale ≡ 0 = div-eq_of_lt (omega arith) in
     rw (a, b, is) (ap (λ x. x ∷ []) (sym (mod-eq_of_lt above_one)))
+
+-- the least number whose entry in a table of q-numbers is zero is a base
+pub found_base : (p q n m : ℕ) (xs : List ℕ) → xs ≡ table p (q_number q) (suc n) → 1 ≤ m → m ≤ length xs → ((t : ℕ) → 1 ≤ t → t < m → get_or xs t 0 ≢ 0)
+    → (m < length xs → get_or xs m 0 ≡ 0) → IsBase p q m n
+found_base p q n m xs whole low high least zero_there = record {
+  positive = low;
+  free = λ t l h z. least t l h (at t (omega (arith, h, len)) ∙ z);
+  zero_there = by (inside m (suc n) (omega (arith, len)));
+}
+  where
+    len : length xs ≡ suc n
+    len = ap length whole ∙ length-table p (q_number q) (suc n)
+
+    at : (t : ℕ) → t < suc n → get_or xs t 0 ≡ q_number q t % p
+    at t h = ap (λ l. get_or l t 0) whole ∙ at_table p (q_number q) (suc n) t h
+
+    inside : (m n : ℕ) → m ≤ n → (m < n) ⊎ (n ≡ m)
+    inside m n h = grind arith
+
+    by : (m < suc n) ⊎ (suc n ≡ m) → (n < m) ⊎ (q_number q m % p ≡ 0)
+    by (inl l) = inr (sym (at m l) ∙ zero_there (omega (arith, len)))
+    by (inr e) = inl (omega arith)

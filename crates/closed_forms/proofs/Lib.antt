@@ -8,3 +8,4 @@ pub mod Tables
 pub mod Residues
 pub mod Lucas
 pub mod Digits
+pub mod Numbers

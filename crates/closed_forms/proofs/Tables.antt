@@ -39,6 +39,12 @@ table_more p c n x xs ys whole last more =
     let e : n + 1 ≡ suc n = omega arith in
     rw e (more ∙ (λ i. whole i ++ last i ∷ []))
 
+-- a table by its own length
+pub by_length : (p : ℕ) (c : ℕ → ℕ) (n : ℕ) (xs : List ℕ) → xs ≡ table p c n → (length xs ≡ n) × (xs ≡ table p c (length xs))
+by_length p c n xs whole =
+    let len : length xs ≡ n = ap length whole ∙ length-table p c n in
+    (len, whole ∙ ap (table p c) (sym len))
+
 -- tables of numbers that are the same modulo p
 pub table_alike : (p : ℕ) (c d : ℕ → ℕ) (n : ℕ) → ((k : ℕ) → k < n → Same p (c k) (d k)) → table p c n ≡ table p d n
 table_alike p c d zero e = refl

@@ -96,6 +96,7 @@ fn weyl_numbers(
     requires reach { a + b ≤ 4095 }
     ensures { IfOk result (λ r. r.items ≡ table field (weyl_number q delta a b) (suc (min a b))) }
 {
+    let _p = field.p();
     let top = a.min(b);
     let row = binomials::gaussian_row(alloc, field, q, usize::from(b), usize::from(top))?;
     let q_numbers = binomials::q_numbers(alloc, field, q, usize::from(a))?;
@@ -117,8 +118,9 @@ fn binomial_numbers(alloc: Global, field: Field, shift: u32, n: u16) -> Result<V
     requires reach { n ≤ 4095 }
     ensures { IfOk result (λ r. r.items ≡ table field (binomial_number shift n) (suc n)) }
 {
-    let n = usize::from(n);
-    let row = binomials::gaussian_row(alloc, field, 1, n, n)?;
+    let _p = field.p();
+    let top = usize::from(n);
+    let row = binomials::gaussian_row(alloc, field, 1, top, top)?;
     let mut numbers = Vec::with_capacity(alloc, row.len())?;
     let mut power = 1;
     for binomial in &row {

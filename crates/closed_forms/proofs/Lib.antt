@@ -9,3 +9,5 @@ pub mod Residues
 pub mod Lucas
 pub mod Digits
 pub mod Numbers
+pub mod Shape
+pub mod PairKinds

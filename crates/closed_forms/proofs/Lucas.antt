@@ -72,7 +72,7 @@ module _ (p q : ℕ) where
   next_in_row n k x y e inverse =
       let here : Same p (q_number q (suc k) * y) 1 = same_mul_right p y _ _ (sym (same_rest p (q_number q (suc k)))) ∙ inverse in
       let moved : gaussian q n k * (q_number q (n - k) * y) ≡ gaussian q n (suc k) * (q_number q (suc k) * y) =
-          exchange (gaussian q n k) (q_number q (n - k)) y (gaussian q n (suc k)) (q_number q (suc k)) (neighbours q n k) in
+      exchange (gaussian q n k) (q_number q (n - k)) y (gaussian q n (suc k)) (q_number q (suc k)) (neighbours q n k) in
       rw e
       (same_times p _ _ _ _ (same_rest p (gaussian q n k)) (same_rest p ((q_number q (n - k) % p) * y) ∙ same_mul_right p y _ _ (same_rest p (q_number q (n - k))))
       ∙ same_refl p _ _ moved

@@ -21,7 +21,7 @@ power_letter zero v w = refl
 power_letter (suc t) v w = ap (λ r. v ∷ r) (power_letter t v w)
 
 -- the word of 1 is empty
-sorted_word-one : (i n : ℕ) → word_from i (replicate n 0) ≡ []
+pub sorted_word-one : (i n : ℕ) → word_from i (replicate n 0) ≡ []
 sorted_word-one i zero = refl
 sorted_word-one i (suc n) = sorted_word-one (suc i) n
 

@@ -1,8 +1,9 @@
 //! Products of powers of two variables of a G-algebra, by the formula of their relation's kind.
 #![tactic(auto)]
 
-ghost use Rattle.std.specs.Prelude.{◌≡◌, ℕ, ◌+◌, ◌<◌, ◌≤◌, ◌↔◌, ◌++◌, [], Some, IfOk, OnOk, length, replicate};
+ghost use Rattle.std.specs.Prelude.{◌≡◌, ◌≢◌, ℕ, ◌+◌, ◌<◌, ◌≤◌, ◌↔◌, ◌++◌, ◌∷◌, [], Some, IfOk, OnOk, length, replicate};
 ghost use Rattle.monomials.specs.Polynomials.{Each, HasNumbers, HasVars, cons_nonzero};
+ghost use Rattle.gpoly.specs.Terms.{pair_of};
 ghost use Rattle.word_model.specs.Words.{Algebra, IsPaired, normal_form};
 ghost use Rattle.closed_forms.specs.declared.PairKind.{PairKind};
 ghost use Rattle.closed_forms.specs.Kinds.{IsProper, IsOfKind, HasKind};
@@ -65,7 +66,10 @@ pub fn kind_of(field: Field, c: u32, d: &GPoly, i: u8, j: u8) -> Option<PairKind
 }
 
 // The kind where d is zero.
-fn kind_without_term(c: u32) -> Option<PairKind> {
+fn kind_without_term(c: u32) -> Option<PairKind>
+    ensures { (p n i j : ℕ) (kind : PairKind) → c < p →
+        (result ≡ Some kind) ↔ IsOfKind p n i j kind c [] }
+{
     match c {
         0 => None,
         1 => Some(PairKind::Commuting),
@@ -74,7 +78,14 @@ fn kind_without_term(c: u32) -> Option<PairKind> {
 }
 
 // The kind where d is one term.
-fn kind_with_term(c: u32, term: &Term, i: u8, j: u8) -> Option<PairKind> {
+fn kind_with_term(c: u32, term: &Term, i: u8, j: u8) -> Option<PairKind>
+    requires first { 1 ≤ i }
+    requires ordered { i < j }
+    requires last { j ≤ length term.now.mono }
+    requires nonzero { term.now.coef ≢ 0 }
+    ensures { (p : ℕ) (kind : PairKind) → c < p → term.now.coef < p → (result ≡ Some kind)
+        ↔ IsOfKind p (length term.now.mono) i j kind c (pair_of term.now ∷ []) }
+{
     let n = term.mono.len();
     match c {
         0 => None,
@@ -88,7 +99,14 @@ fn kind_with_term(c: u32, term: &Term, i: u8, j: u8) -> Option<PairKind> {
 }
 
 // The kind where d is one term and c is 1.
-fn kind_of_commutator(term: &Term, i: u8, j: u8) -> Option<PairKind> {
+fn kind_of_commutator(term: &Term, i: u8, j: u8) -> Option<PairKind>
+    requires first { 1 ≤ i }
+    requires ordered { i < j }
+    requires last { j ≤ length term.now.mono }
+    requires nonzero { term.now.coef ≢ 0 }
+    ensures { (p : ℕ) (kind : PairKind) → term.now.coef < p → (result ≡ Some kind)
+        ↔ IsOfKind p (length term.now.mono) i j kind 1 (pair_of term.now ∷ []) }
+{
     let n = term.mono.len();
     if term.mono == Expo::one(n) {
         Some(PairKind::Weyl { delta: term.coef })
@@ -119,15 +137,6 @@ pub fn power_product(
     ensures falling { IfOk result (λ r. IsFalling (pairs_of r.items)) }
     ensures nonzero { IfOk result (λ r. Each (IsNumber field) (pairs_of r.items)) }
 {
-    match *kind {
-        PairKind::Commuting => terms::single(alloc, 1, b, a),
-        PairKind::Quasi { q } => {
-            let coef = binomials::power(field, q, u32::from(a) * u32::from(b));
-            terms::single(alloc, coef, b, a)
-        }
-        PairKind::Weyl { delta } => terms::weyl(alloc, field, 1, delta, a, b),
-        PairKind::QWeyl { q, delta } => terms::weyl(alloc, field, q, delta, a, b),
-        PairKind::LeftLinear { alpha } => terms::left_linear(alloc, field, alpha, a, b),
-        PairKind::RightLinear { beta } => terms::right_linear(alloc, field, beta, a, b),
-    }
+    let _p = field.p();
+    terms::closed_form(alloc, field, kind, a, b)
 }

@@ -3,11 +3,12 @@
 ghost use Rattle.std.specs.Prelude.{◌≡◌, ℕ, suc, ◌+◌, ◌*◌, ◌<◌, ◌≤◌, ◌++◌, [], IfOk, OnOk, length, min};
 ghost use Rattle.monomials.specs.Polynomials.{cons_nonzero};
 ghost use Rattle.closed_forms.specs.Binomials.{table};
-ghost use Rattle.closed_forms.specs.Forms.{pairs_of, sum_of_terms, weyl_number, weyl_form, binomial_number};
+ghost use Rattle.closed_forms.specs.Forms.{pairs_of, sum_of_terms, weyl_number, weyl_form, binomial_number, closed_form};
+ghost use Rattle.closed_forms.specs.Kinds.{IsProper};
 ghost use Rattle.closed_forms.specs.Paths.{place, last_place};
 ghost use Rattle.closed_forms.specs.declared.terms.Path.TheVariants.{X, Y};
 
-use crate::{Term2, binomials};
+use crate::{PairKind, Term2, binomials};
 use prime_field::Field;
 use std::alloc::{AllocError, Global};
 
@@ -19,8 +20,33 @@ pub enum Path {
     Both,
 }
 
-/// The term with this number, unless it is zero.
-pub fn single(alloc: Global, coef: u32, x: u16, y: u16) -> Result<Vec<Term2>, AllocError>
+/// The product `y^a x^b`, by the formula of the kind.
+pub fn closed_form(
+    alloc: Global,
+    field: Field,
+    kind: &PairKind,
+    a: u16,
+    b: u16,
+) -> Result<Vec<Term2>, AllocError>
+    requires proper { IsProper field kind.now }
+    requires reach { a + b ≤ 4095 }
+    ensures { IfOk result (λ r. pairs_of r.items ≡ closed_form field kind.now a b) }
+{
+    match *kind {
+        PairKind::Commuting => single(alloc, 1, b, a),
+        PairKind::Quasi { q } => {
+            let coef = binomials::power(field, q, u32::from(a) * u32::from(b));
+            single(alloc, coef, b, a)
+        }
+        PairKind::Weyl { delta } => weyl(alloc, field, 1, delta, a, b),
+        PairKind::QWeyl { q, delta } => weyl(alloc, field, q, delta, a, b),
+        PairKind::LeftLinear { alpha } => left_linear(alloc, field, alpha, a, b),
+        PairKind::RightLinear { beta } => right_linear(alloc, field, beta, a, b),
+    }
+}
+
+// The term with this number, unless it is zero.
+fn single(alloc: Global, coef: u32, x: u16, y: u16) -> Result<Vec<Term2>, AllocError>
     ensures { IfOk result (λ r. pairs_of r.items ≡ cons_nonzero coef (x, y) []) }
 {
     let mut terms = Vec::new(alloc);
@@ -28,8 +54,8 @@ pub fn single(alloc: Global, coef: u32, x: u16, y: u16) -> Result<Vec<Term2>, Al
     Ok(terms)
 }
 
-/// The product `y^a x^b` where `y x = q x y + delta`.
-pub fn weyl(
+// The product `y^a x^b` where `y x = q x y + delta`.
+fn weyl(
     alloc: Global,
     field: Field,
     q: u32,
@@ -46,8 +72,8 @@ pub fn weyl(
     along(alloc, &numbers, Path::Both, b, a)
 }
 
-/// The product `y^a x^b`, which is `x^b (y + b alpha)^a`, where `y x = x y + alpha x`.
-pub fn left_linear(
+// The product `y^a x^b`, which is `x^b (y + b alpha)^a`, where `y x = x y + alpha x`.
+fn left_linear(
     alloc: Global,
     field: Field,
     alpha: u32,
@@ -64,8 +90,8 @@ pub fn left_linear(
     along(alloc, &numbers, Path::Y, b, a)
 }
 
-/// The product `y^a x^b`, which is `(x + a beta)^b y^a`, where `y x = x y + beta y`.
-pub fn right_linear(
+// The product `y^a x^b`, which is `(x + a beta)^b y^a`, where `y x = x y + beta y`.
+fn right_linear(
     alloc: Global,
     field: Field,
     beta: u32,

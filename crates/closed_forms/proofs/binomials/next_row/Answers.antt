@@ -11,8 +11,12 @@ digit_row-requires-clause-free c = digit_free c.args.field c.args.q c.args.base 
 
 pub bounds-high-k : goal.bounds-high-k
 bounds-high-k c =
-    omega (arith, ap length c.requires.high, length-table c.args.field (gaussian 1 (c.args.n / c.args.base)) (suc (c.args.top / c.args.base)),
-    quotient_within c.loop-k.k c.args.top c.args.base c.requires.base.positive (omega arith))
+    omega (
+      arith,
+      ap length c.requires.high,
+      length-table c.args.field (gaussian 1 (c.args.n / c.args.base)) (suc (c.args.top / c.args.base)),
+      quotient_within c.loop-k.k c.args.top c.args.base c.requires.base.positive (omega arith),
+    )
 
 pub mul-requires-clause-a_in_range : goal.mul-requires-clause-a_in_range
 mul-requires-clause-a_in_range c =

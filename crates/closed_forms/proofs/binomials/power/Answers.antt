@@ -9,7 +9,7 @@ use Rattle.closed_forms.proofs.binomials.power.Goals.{then-rest-eq1, else-rest-e
 pub loop-rest-init : goal.loop-rest-init
 loop-rest-init c =
     let prime : IsPrime c.args.field = c.p-p.ensures.prime in
-    record { square_in_range = c.requires; result_in_range = prime.above_one; whole = same_refl c.args.field _ _ (omega arith); }
+    record { square_in_range = c.requires; result_in_range = prime.above_one; whole = same_refl c.args.field _ _ (omega arith) }
 
 pub loop-rest-preserved : goal.loop-rest-preserved
 loop-rest-preserved c =

@@ -11,7 +11,7 @@ pub loop-binomial-init : goal.loop-binomial-init
 loop-binomial-init c =
     let prime : IsPrime c.args.field = c.p-p.ensures.prime in
     let one : 1 ≡ c.args.shift ^ 0 % c.args.field = sym (ap (λ x. x % c.args.field) (pow-zero c.args.shift) ∙ mod-eq_of_lt prime.above_one) in
-    record { done = c.in_ok-numbers.ensures.items; next = one; in_range = prime.above_one; }
+    record { done = c.in_ok-numbers.ensures.items; next = one; in_range = prime.above_one }
 
 pub mul-requires-clause-a_in_range : goal.mul-requires-clause-a_in_range
 mul-requires-clause-a_in_range c =

@@ -11,7 +11,7 @@ pub loop-k-init : goal.loop-k-init
 loop-k-init c =
     let prime : IsPrime c.args.field = c.p-p.ensures.prime in
     let one : 1 ≡ (c.args.delta ^ 0 * 1) % c.args.field = sym (ap (λ x. (x * 1) % c.args.field) (pow-zero c.args.delta) ∙ mod-eq_of_lt prime.above_one) in
-    record { done = c.in_ok-numbers.ensures.items; next = one; in_range = prime.above_one; }
+    record { done = c.in_ok-numbers.ensures.items; next = one; in_range = prime.above_one }
 
 pub index-requires : goal.index-requires
 index-requires c =

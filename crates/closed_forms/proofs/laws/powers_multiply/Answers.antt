@@ -1,5 +1,3 @@
-use Rattle.closed_forms.proofs.Shape.{closed_form_falls}
-use Rattle.closed_forms.proofs.PairKinds.{long_kind}
 use Rattle.closed_forms.proofs.Normal.{normal_form-powers}
 use Rattle.closed_forms.proofs.laws.powers_multiply.Goals as goal
 

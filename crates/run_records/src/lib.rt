@@ -10,7 +10,6 @@ use algebra::Algebra;
 use gpoly::GPoly;
 use std::alloc::{AllocError, Global};
 use std::marker::Model;
-
 pub use word_model::records::{Entry, Job, Mode, Outcome, Trace, TraceStep};
 
 /// A run of the machine: what it did with its jobs in order, the basis that it made, and how it

@@ -3,7 +3,7 @@ use Rattle.std.proofs.lemmas.Result.{err_from_is_err_and}
 use Rattle.plural_one.proofs.Finishing.{met_fault, nonzero_in, kept-sorted, length-kept, finished-is, finished-none}
 use Rattle.plural_one.proofs.finish.reduced.Goals as goal
 
-pub of-requires-clause-elements : goal.of-kept-requires-clause-elements
+pub of-requires-clause-elements : goal.of-requires-clause-elements
 of-requires-clause-elements c = (c.args.algebra.now.order.vars, nonzero_in c.args.algebra.now c.args.basis.now.items c.requires.elements)
 
 pub finals-requires-clause-sorted : goal.finals-requires-clause-sorted

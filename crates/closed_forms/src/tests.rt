@@ -1,9 +1,9 @@
-//! Products of powers, worked by hand and found by moving one letter past another. Tables are texts: a
+//! Products of powers, worked by hand and found by rewriting words of two letters, outside. The table is a text: a
 //! polynomial in x and y is its terms, each a number and the two digits of its exponents.
 
 ghost use Rattle.std.specs.Prelude.{◌≡◌, ◌≤◌, length, IfOk};
 ghost use Rattle.monomials.specs.Monomials.{degree};
-ghost use Rattle.monomials.specs.Polynomials.{IsPolynomial};
+ghost use Rattle.monomials.specs.Polynomials.{IsPolynomial, HasVars, HasNumbers};
 
 use super::*;
 use monomials::{Block, Order};
@@ -17,21 +17,40 @@ fn order(alloc: Global) -> Result<Order, Fail>
     Ok(order)
 }
 
-// The polynomial with these terms, as `1:10 3:00` for x + 3, and the zero polynomial for an empty text.
-fn poly(alloc: Global, field: Field, order: &Order, text: &str) -> Result<GPoly, Fail>
+// The monomial with these digits as exponents.
+fn monomial(x: u8, y: u8) -> Expo
+    ensures vars { length result ≡ 2 }
+    ensures small { degree result ≤ 4095 }
+{
+    let digit = |byte: u8| u16::from(byte.saturating_sub(b'0'));
+    Expo::of(&[digit(x), digit(y)])
+}
+
+// The polynomial with one term, as `2:10` for 2 x.
+fn term(alloc: Global, field: Field, order: &Order, text: &str) -> Result<GPoly, Fail>
     requires { order.now.vars ≡ 2 }
     ensures { IfOk result (λ f. IsPolynomial field order.now f) }
 {
+    let (number, exponents) = text.split_once(':').ok_or("a term has a colon")?;
+    let [x, y] = exponents.as_bytes() else {
+        return Err("a term has two exponents".into());
+    };
+    let coef = field.from_int(number.parse::<u64>()?);
+    let mono = monomial(*x, *y);
+    let term = GPoly::from_terms(alloc, field, order, &[Term { coef, mono }])?;
+    Ok(term)
+}
+
+// The sum of the terms, as `1:11 1:00` for x y + 1.
+fn poly(alloc: Global, field: Field, order: &Order, text: &str) -> Result<GPoly, Fail>
+    requires { order.now.vars ≡ 2 }
+    ensures sorted { IfOk result (λ f. IsPolynomial field order.now f) }
+    ensures vars { IfOk result (λ f. HasVars 2 f) }
+    ensures numbers { IfOk result (λ f. HasNumbers field f) }
+{
     let mut sum = GPoly::zero(alloc);
-    for piece in text.split_whitespace() {
-        let (number, exponents) = piece.split_once(':').ok_or("a term has a colon")?;
-        let [x, y] = exponents.as_bytes() else {
-            return Err("a term has two exponents".into());
-        };
-        let digit = |byte: u8| u16::from(byte.saturating_sub(b'0'));
-        let coef = field.from_int(number.parse::<u64>()?);
-        let mono = Expo::of(&[digit(*x), digit(*y)]);
-        let part = GPoly::from_terms(alloc, field, order, &[Term { coef, mono }])?;
+    for piece in text.split(' ') {
+        let part = term(alloc, field, order, piece)?;
         sum = sum.add(alloc, field, order, &part)?;
     }
     Ok(sum)
@@ -46,22 +65,79 @@ fn text_of(alloc: Global, terms: &[Term2]) -> Result<String, AllocError> {
     Ok(text)
 }
 
+// The kind of the relation y x = c x y + d, with the product y^a x^b.
+fn answer(
+    alloc: Global,
+    field: Field,
+    c: u32,
+    d: &GPoly,
+    a: u8,
+    b: u8,
+) -> Result<String, AllocError>
+    requires c_in_range { c < field }
+    requires d_sorted { HasVars 2 d.now }
+    requires d_numbers { HasNumbers field d.now }
+{
+    match kind_of(field, c, d, 1, 2) {
+        Some(kind) => {
+            let product = power_product(alloc, field, &kind, u16::from(a), u16::from(b))?;
+            let terms = text_of(alloc, &product)?;
+            format!(in alloc; "{kind:?}{terms}")
+        }
+        None => String::from_str(alloc, "none"),
+    }
+}
+
 // The characteristic, the relation's number and polynomial, a and b, and the kind with y^a x^b.
 const PRODUCTS: &str = "\
-7|1||2 3|Commuting 1:32
-7|3||1 2|Quasi { q: 3 } 2:21
-7|3||2 3|Quasi { q: 3 } 1:32
-7|6||1 1|Quasi { q: 6 } 6:11
+7|1|0:00|2 3|Commuting 1:32
+7|3|0:00|1 2|Quasi { q: 3 } 2:21
+7|3|0:00|2 3|Quasi { q: 3 } 1:32
+7|6|0:00|1 1|Quasi { q: 6 } 6:11
 2|1|1:00|2 2|Weyl { delta: 1 } 1:22
 7|1|1:00|2 2|Weyl { delta: 1 } 1:22 4:11 2:00
 7|3|1:00|2 1|QWeyl { q: 3, delta: 1 } 2:12 4:01
 7|1|1:10|2 1|LeftLinear { alpha: 1 } 1:12 2:11 1:10
 7|1|1:01|1 2|RightLinear { beta: 1 } 1:21 2:11 1:01
-7|0||1 1|none
+7|0|0:00|1 1|none
 7|0|1:00|1 1|none
 7|2|1:10|1 1|none
 7|1|1:20|1 1|none
-7|1|1:10 1:00|1 1|none";
+7|1|1:10 1:00|1 1|none
+2|1|0:00|3 3|Commuting 1:33
+2|1|0:00|5 4|Commuting 1:45
+2|1|1:00|2 3|Weyl { delta: 1 } 1:32
+2|1|1:00|4 3|Weyl { delta: 1 } 1:34
+2|1|1:00|3 5|Weyl { delta: 1 } 1:53 1:42
+2|1|1:00|0 2|Weyl { delta: 1 } 1:20
+2|1|1:10|3 3|LeftLinear { alpha: 1 } 1:33 1:32 1:31 1:30
+2|1|1:10|5 4|LeftLinear { alpha: 1 } 1:45
+2|1|1:01|3 3|RightLinear { beta: 1 } 1:33 1:23 1:13 1:03
+2|1|1:01|5 4|RightLinear { beta: 1 } 1:45 1:05
+3|1|2:00|3 3|Weyl { delta: 2 } 1:33
+3|1|2:00|5 4|Weyl { delta: 2 } 1:45 1:34
+3|2|0:00|3 3|Quasi { q: 2 } 2:33
+3|2|0:00|5 4|Quasi { q: 2 } 1:45
+3|2|1:00|3 3|QWeyl { q: 2, delta: 1 } 2:33 1:22
+3|2|1:00|5 4|QWeyl { q: 2, delta: 1 } 1:45
+3|1|1:10|3 3|LeftLinear { alpha: 1 } 1:33
+3|1|1:10|5 4|LeftLinear { alpha: 1 } 1:45 2:44 1:43 1:42 2:41 1:40
+3|1|2:01|3 3|RightLinear { beta: 2 } 1:33
+3|1|2:01|5 4|RightLinear { beta: 2 } 1:45 1:35 1:15 1:05
+7|6|0:00|3 3|Quasi { q: 6 } 6:33
+7|6|0:00|5 4|Quasi { q: 6 } 1:45
+7|1|3:00|3 3|Weyl { delta: 3 } 1:33 6:22 1:11 1:00
+7|1|3:00|5 4|Weyl { delta: 3 } 1:45 4:34 2:23 5:12 4:01
+7|2|5:00|2 3|QWeyl { q: 2, delta: 5 } 1:32
+7|2|5:00|4 3|QWeyl { q: 2, delta: 5 } 1:34
+7|2|5:00|3 5|QWeyl { q: 2, delta: 5 } 1:53
+7|2|5:00|0 2|QWeyl { q: 2, delta: 5 } 1:20
+7|6|1:00|3 3|QWeyl { q: 6, delta: 1 } 6:33 1:22
+7|6|1:00|5 4|QWeyl { q: 6, delta: 1 } 1:45
+7|1|4:10|3 3|LeftLinear { alpha: 4 } 1:33 1:32 5:31 6:30
+7|1|4:10|5 4|LeftLinear { alpha: 4 } 1:45 3:44 5:43 3:42 3:41 4:40
+7|1|3:01|3 3|RightLinear { beta: 3 } 1:33 6:23 5:13 1:03
+7|1|3:01|5 4|RightLinear { beta: 3 } 1:45 4:35 6:25 4:15 1:05";
 
 #[test]
 fn multiplies(rt: HostRuntime) -> Result<(), Fail> {
@@ -76,137 +152,8 @@ fn multiplies(rt: HostRuntime) -> Result<(), Fail> {
         let c = field.from_int(c.parse::<u64>()?);
         let d = poly(alloc, field, &order, d)?;
         let (a, b) = powers.split_once(' ').ok_or("there are two powers")?;
-        let (a, b) = (a.parse::<u8>()?, b.parse::<u8>()?);
-        let got = match kind_of(field, c, &d, 1, 2) {
-            Some(kind) => {
-                let product = power_product(alloc, field, &kind, u16::from(a), u16::from(b))?;
-                let terms = text_of(alloc, &product)?;
-                format!(in alloc; "{kind:?}{terms}")?
-            }
-            None => String::from_str(alloc, "none")?,
-        };
+        let got = answer(alloc, field, c, &d, a.parse()?, b.parse()?)?;
         assert_eq!(rt; got.as_str(), *want);
-    }
-    Ok(())
-}
-
-// Adds a term to a sum.
-fn add(sum: &mut Vec<Term2>, field: Field, coef: u64, x: u16, y: u16) -> Result<(), AllocError> {
-    for i in 0..sum.len() {
-        if sum[i].x == x && sum[i].y == y {
-            let coef = u64::from(sum[i].coef) + u64::from(field.from_int(coef));
-            sum[i].coef = field.from_int(coef);
-            return Ok(());
-        }
-    }
-    let coef = field.from_int(coef);
-    sum.push(Term2 { coef, x, y })?;
-    Ok(())
-}
-
-// The product y x^n, by y x = c x y + d at each of the letters.
-fn past(alloc: Global, field: Field, c: u32, d: &GPoly, n: u16) -> Result<Vec<Term2>, AllocError> {
-    let mut product = vec![in alloc;
-        Term2 {
-            coef: 1,
-            x: 0,
-            y: 1
-        },
-    ]?;
-    for power in 0..n {
-        let mut next = Vec::new(alloc);
-        for term in &product {
-            let coef = u64::from(c) * u64::from(term.coef);
-            add(&mut next, field, coef, term.x.saturating_add(1), term.y)?;
-        }
-        for part in d.terms() {
-            let coef = u64::from(part.coef);
-            if part.mono == Expo::var(2, 2) {
-                for term in &product {
-                    add(
-                        &mut next,
-                        field,
-                        coef * u64::from(term.coef),
-                        term.x,
-                        term.y,
-                    )?;
-                }
-            } else {
-                let x = power.saturating_add(part.mono.degree() as u16);
-                add(&mut next, field, coef, x, 0)?;
-            }
-        }
-        product = next;
-    }
-    Ok(product)
-}
-
-// The product y^a x^b, a letter y at a time.
-fn by_letters(
-    alloc: Global,
-    field: Field,
-    c: u32,
-    d: &GPoly,
-    a: u16,
-    b: u16,
-) -> Result<Vec<Term2>, AllocError> {
-    let mut product = vec![in alloc;
-        Term2 {
-            coef: 1,
-            x: b,
-            y: 0
-        },
-    ]?;
-    for _ in 0..a {
-        let mut next = Vec::new(alloc);
-        for term in &product {
-            for part in &past(alloc, field, c, d, term.x)? {
-                let coef = u64::from(term.coef) * u64::from(part.coef);
-                add(
-                    &mut next,
-                    field,
-                    coef,
-                    part.x,
-                    part.y.saturating_add(term.y),
-                )?;
-            }
-        }
-        product = next;
-    }
-    product.retain(|term| term.coef != 0);
-    Ok(product)
-}
-
-#[test]
-fn agrees_with_rewriting(rt: HostRuntime) -> Result<(), Fail> {
-    let alloc = rt.alloc();
-    let order = order(alloc)?;
-    for p in [2, 3, 7] {
-        let field = Field::of(p)?;
-        for d in ["", "1:00", "2:00", "1:10", "2:10", "1:01", "3:01", "5:01"] {
-            let d = poly(alloc, field, &order, d)?;
-            for number in 1..7 {
-                let c = field.from_int(number);
-                let Some(kind) = kind_of(field, c, &d, 1, 2) else {
-                    continue;
-                };
-                for (a, b) in [
-                    (0, 4),
-                    (5, 0),
-                    (1, 1),
-                    (2, 3),
-                    (3, 3),
-                    (5, 4),
-                    (2, 9),
-                    (9, 2),
-                ] {
-                    let got = power_product(alloc, field, &kind, a, b)?;
-                    let want = by_letters(alloc, field, c, &d, a, b)?;
-                    let found = want.iter().all(|term| got.contains(term));
-                    assert!(rt; found && got.len() == want.len(), "{kind:?} {a} {b}");
-                }
-            }
-        }
     }
     Ok(())
 }

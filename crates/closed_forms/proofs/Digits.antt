@@ -1,9 +1,8 @@
 -- One digit of a number to a base, as code finds the binomials of it.
-use Rattle.std.proofs.Common.{◌≡◌, ◌≢◌, ℕ, zero, suc, ◌+◌, ◌-◌, ◌*◌, ◌/◌, ◌%◌, ◌^◌, ◌<◌, ◌≤◌, ◌⊎◌, inl, inr, List, [], ◌∷◌, length, min, get_or, refl, sym, ap, ◌∙◌, subst, arith, mod-lt, mod-eq_of_lt}
+use Rattle.std.proofs.Common.{◌≡◌, ◌≢◌, ℕ, zero, suc, ◌*◌, ◌/◌, ◌%◌, ◌^◌, ◌<◌, ◌≤◌, ◌⊎◌, inl, inr, List, [], ◌∷◌, length, min, get_or, refl, sym, ap, ◌∙◌, subst, arith, mod-lt, mod-eq_of_lt}
 use Rattle.std.proofs.Math.Nat.{div-mul-le_self, mod-le, mod_self, one-le-pow, pow-zero, pow-suc, mul-div_left, div-div-eq-div-mul, div-eq_of_lt}
 use Rattle.std.proofs.lemmas.Nat.{le-div}
-use Rattle.prime_field.specs.Modular.{IsPrime}
-use Rattle.monomials.proofs.Modulo.{Same, same_refl, same_rest}
+use Rattle.monomials.proofs.Modulo.{same_rest}
 use Rattle.word_model.specs.Conditions.{IsField}
 use Rattle.closed_forms.specs.Binomials.{q_number, gaussian, table, IsFree, IsBase}
 use Rattle.closed_forms.proofs.Pascal.{gaussian-above}

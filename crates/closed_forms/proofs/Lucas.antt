@@ -1,6 +1,6 @@
 -- Gaussian binomials by digits (after Lucas 1878): modulo p the binomial of n = N m + r and k = K m + s is C(N,K) [r,s]_q, where m
 -- is the least number from 1 on whose q-number is zero.
-use Rattle.std.proofs.Common.{◌≡◌, ◌≢◌, ℕ, zero, suc, ◌+◌, ◌-◌, ◌*◌, ◌/◌, ◌%◌, ◌^◌, ◌<◌, ◌≤◌, ◌⊎◌, inl, inr, refl, sym, ap, ◌∙◌, subst, arith, pow-add, mod-lt, mod-eq_of_lt}
+use Rattle.std.proofs.Common.{◌≡◌, ℕ, zero, suc, ◌+◌, ◌-◌, ◌*◌, ◌/◌, ◌%◌, ◌^◌, ◌<◌, ◌≤◌, ◌⊎◌, inl, inr, refl, sym, ap, ◌∙◌, arith, pow-add, mod-lt, mod-eq_of_lt}
 use Rattle.std.proofs.Math.Nat.{pow-zero, pow-succ', div-add-mod, div-eq_of_lt}
 use Rattle.monomials.proofs.Modulo.{Same, same_refl, same_add, same_mul, same_mul_right, same_rest}
 use Rattle.word_model.specs.Conditions.{NonZero, IsField}

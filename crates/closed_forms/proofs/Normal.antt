@@ -1,13 +1,13 @@
 -- The closed form of each kind is the normal form of y^a x^b.
-use Rattle.std.proofs.Common.{◌≡◌, ℕ, zero, suc, ◌+◌, ◌-◌, ◌*◌, ◌%◌, ◌^◌, ◌<◌, ◌≤◌, ◌⊎◌, inl, inr, min, [], ◌∷◌, ◌++◌, map, replicate, refl, sym, ap, ◌∙◌, arith}
-use Rattle.monomials.specs.Monomials.{Monomial, one}
+use Rattle.std.proofs.Common.{◌≡◌, ℕ, suc, ◌+◌, ◌-◌, ◌*◌, ◌%◌, ◌^◌, ◌<◌, ◌≤◌, ◌⊎◌, inl, inr, min, [], ◌∷◌, ◌++◌, map, replicate, refl, sym, ap, ◌∙◌, arith}
+use Rattle.monomials.specs.Monomials.{Monomial}
 use Rattle.monomials.specs.Orders.{order_cmp}
 use Rattle.monomials.proofs.Modulo.{Same, same_refl, same_mul_right, same_rest}
 use Rattle.monomials.proofs.Weights.{weigh, weigh-cons_nonzero, weigh-map_key, weigh-from_terms}
 use Rattle.monomials.proofs.Canonical.{same_poly, IsCanonical-from_terms}
 use Rattle.monomials.proofs.OrderLaws.{order_cmp_total, order_cmp_tied}
 use Rattle.word_model.specs.Words.{Algebra, monomial_of, normal_form, c_of, d_of, IsPaired}
-use Rattle.word_model.proofs.NormalForms.{word_weight, normal_form_is_polynomial}
+use Rattle.word_model.proofs.NormalForms.{normal_form_is_polynomial}
 use Rattle.closed_forms.specs.declared.PairKind.{PairKind}
 use Rattle.closed_forms.specs.declared.PairKind.TheVariants.{Commuting, Quasi, Weyl, QWeyl, LeftLinear, RightLinear}
 use Rattle.closed_forms.specs.Kinds.{number_of, polynomial_of, HasKind}
@@ -15,7 +15,7 @@ use Rattle.closed_forms.specs.Forms.{Powers, Terms, sum_of_terms, weyl_number, w
 use Rattle.closed_forms.proofs.Sums.{sum_below, sum_below_equal, sum_below-cut, weigh-sum_of_terms}
 use Rattle.closed_forms.proofs.Pascal.{one_pow, weyl_number-above, weyl_number-beyond}
 use Rattle.closed_forms.proofs.Shifts.{shifted, binomial_theorem}
-use Rattle.closed_forms.proofs.Passing.{weight, weight-sorted, IsWeylRule, weyl_rule, left_rule, right_rule}
+use Rattle.closed_forms.proofs.Passing.{weight-sorted, IsWeylRule, weyl_rule, left_rule, right_rule}
 use Rattle.closed_forms.proofs.Powers.{before_powers, sorted_powers, weyl_weight, weyl_powers, quasi_powers, left_powers, right_powers}
 
 none_more : (b : ℕ) → 0 + b ≡ b

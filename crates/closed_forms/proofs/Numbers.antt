@@ -1,5 +1,5 @@
 -- The numbers of the formulas modulo p, step by step.
-use Rattle.std.proofs.Common.{◌≡◌, ℕ, zero, suc, ◌+◌, ◌-◌, ◌*◌, ◌%◌, ◌^◌, ◌<◌, ◌≤◌, refl, sym, ap, ◌∙◌, arith}
+use Rattle.std.proofs.Common.{◌≡◌, ℕ, zero, suc, ◌+◌, ◌-◌, ◌*◌, ◌%◌, ◌^◌, refl, sym, ap, ◌∙◌, arith}
 use Rattle.std.proofs.Math.Nat.{pow-suc, pow-succ'}
 use Rattle.monomials.proofs.Modulo.{Same, same_refl, same_mul, same_mul_right, same_rest}
 use Rattle.closed_forms.specs.Binomials.{q_number, gaussian, falling_product}

@@ -1,5 +1,5 @@
 -- The kind of a relation whose polynomial is a multiple of x_i, and lists of no term and of one.
-use Rattle.std.proofs.Common.{◌≡◌, ◌≢◌, ℕ, ◌<◌, ◌≤◌, ◌↔◌, List, [], ◌∷◌, length, get_or, Option, Some, refl, sym, ap, ◌∙◌, subst, arith}
+use Rattle.std.proofs.Common.{◌≡◌, ◌≢◌, ℕ, ◌<◌, ◌≤◌, ◌↔◌, List, [], ◌∷◌, length, get_or, Some, refl, sym, ap, ◌∙◌, subst, arith}
 use Rattle.monomials.specs.Monomials.{Monomial, one, variable}
 use Rattle.monomials.specs.Polynomials.{Polynomial}
 use Rattle.word_model.specs.Words.{sorted_word}

@@ -2,7 +2,7 @@
 use Rattle.std.proofs.Common.{◌≡◌, ℕ, zero, suc, ◌+◌, ◌-◌, ◌*◌, ◌^◌, ◌<◌, ◌≤◌, ◌⊎◌, inl, inr, refl, sym, ap, ◌∙◌, arith, pow-add}
 use Rattle.std.proofs.Math.Nat.{pow-zero, pow-succ'}
 use Rattle.closed_forms.specs.Binomials.{q_number, gaussian, falling_product}
-use Rattle.closed_forms.specs.Forms.{weyl_number, binomial_number}
+use Rattle.closed_forms.specs.Forms.{weyl_number}
 
 -- above n there is no binomial
 pub gaussian-above : (q n k : ℕ) → n < k → gaussian q n k ≡ 0

@@ -1,17 +1,16 @@
 -- How a variable passes powers of a later one, by rewriting the leftmost descent.
-use Rattle.std.proofs.Common.{◌≡◌, ℕ, zero, suc, ◌+◌, ◌-◌, ◌*◌, ◌%◌, ◌^◌, ◌<◌, ◌≤◌, List, [], ◌∷◌, ◌++◌, replicate, None, Some, refl, sym, ap, ◌∙◌, subst, arith, append_assoc, append-nil, le_refl, le_of_lt}
+use Rattle.std.proofs.Common.{◌≡◌, ℕ, zero, suc, ◌+◌, ◌-◌, ◌*◌, ◌^◌, ◌<◌, ◌≤◌, [], ◌∷◌, ◌++◌, replicate, None, Some, refl, sym, ap, ◌∙◌, arith, append_assoc, append-nil, le_refl, le_of_lt}
 use Rattle.std.proofs.Math.Nat.{pow-zero, pow-succ'}
 use Rattle.monomials.specs.Monomials.{Monomial, one, variable}
-use Rattle.monomials.specs.Polynomials.{Polynomial}
 use Rattle.monomials.proofs.Keys.{Each-append}
 use Rattle.monomials.proofs.Modulo.{Same, same_refl, same_add, same_mul}
-use Rattle.monomials.proofs.Weights.{weigh, weigh_equal}
+use Rattle.monomials.proofs.Weights.{weigh}
 use Rattle.word_model.specs.Words.{Algebra, Word, IsWord, monomial_of, word_from, sorted_word, leftmost_descent, behind_letter, c_of, d_of, IsPaired}
 use Rattle.word_model.proofs.Descents.{descent, descent_here, descent_behind}
 use Rattle.word_model.proofs.Letters.{sorted_word-variable}
 use Rattle.word_model.proofs.Termination.{normal_form-sorted}
 use Rattle.word_model.proofs.NormalForms.{word_weight}
-use Rattle.word_model.proofs.Rules.{rule_of, by_descent}
+use Rattle.word_model.proofs.Rules.{by_descent}
 use Rattle.closed_forms.specs.Binomials.{q_number}
 use Rattle.closed_forms.proofs.Shifts.{shifted, shifted_alike}
 

@@ -1,5 +1,5 @@
 -- The terms of closed forms: their order, and their numbers.
-use Rattle.std.proofs.Common.{◌≡◌, ℕ, zero, suc, ◌-◌, ◌*◌, ◌%◌, ◌^◌, ◌<◌, ◌≤◌, ◌⊎◌, inl, inr, min, [], ◌∷◌, ◌++◌, refl, arith, mod-lt}
+use Rattle.std.proofs.Common.{ℕ, zero, suc, ◌-◌, ◌*◌, ◌%◌, ◌^◌, ◌<◌, inl, inr, min, [], ◌∷◌, ◌++◌, refl, arith, mod-lt}
 use Rattle.monomials.specs.Polynomials.{Each, cons_nonzero}
 use Rattle.monomials.proofs.Insertion.{cons_nonzero_cases}
 use Rattle.monomials.proofs.Keys.{Each-append}

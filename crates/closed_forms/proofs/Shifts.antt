@@ -1,7 +1,7 @@
 -- The polynomial (z + c)^n, by what its terms weigh.
-use Rattle.std.proofs.Common.{◌≡◌, ℕ, zero, suc, ◌+◌, ◌-◌, ◌*◌, ◌^◌, ◌<◌, ◌≤◌, ◌⊎◌, inl, inr, refl, sym, ap, ◌∙◌, arith}
+use Rattle.std.proofs.Common.{◌≡◌, ℕ, zero, suc, ◌+◌, ◌-◌, ◌*◌, ◌^◌, ◌<◌, ◌⊎◌, inl, inr, refl, ap, ◌∙◌, arith}
 use Rattle.std.proofs.Math.Nat.{pow-zero, pow-succ'}
-use Rattle.monomials.proofs.Modulo.{Same, same_refl, same_add, same_mul}
+use Rattle.monomials.proofs.Modulo.{Same, same_add, same_mul}
 use Rattle.closed_forms.specs.Binomials.{gaussian}
 use Rattle.closed_forms.specs.Forms.{binomial_number}
 use Rattle.closed_forms.proofs.Sums.{sum_below, sum_below_equal, sum_below_none, sum_below-lin}

@@ -1,5 +1,5 @@
 -- Sums over the numbers below n, and what the terms of a sum weigh.
-use Rattle.std.proofs.Common.{◌≡◌, ℕ, zero, suc, ◌+◌, ◌*◌, ◌%◌, ◌<◌, ◌≤◌, [], ◌++◌, refl, sym, ap, ◌∙◌, arith}
+use Rattle.std.proofs.Common.{◌≡◌, ℕ, zero, suc, ◌+◌, ◌*◌, ◌%◌, ◌≤◌, [], ◌++◌, refl, sym, ap, ◌∙◌, arith}
 use Rattle.monomials.specs.Polynomials.{cons_nonzero}
 use Rattle.monomials.proofs.Modulo.{Same, same_refl, same_add, same_mul_right, same_rest}
 use Rattle.monomials.proofs.Weights.{weigh, weigh-append, weigh-cons_nonzero}

@@ -1,6 +1,6 @@
-use Rattle.std.proofs.Common.{◌≡◌, ◌↔◌, ◌∙◌, ◌∷◌, [], ◌<◌, ℕ, length, Some, sym, ap, subst}
-use Rattle.monomials.specs.Polynomials.{Polynomial, HasVars, HasNumbers}
-use Rattle.gpoly.specs.Terms.{pair_of, pairs_of}
+use Rattle.std.proofs.Common.{◌≡◌, ◌↔◌, ◌∙◌, ◌∷◌, [], ◌<◌, length, Some, sym, ap, subst}
+use Rattle.monomials.specs.Polynomials.{HasVars, HasNumbers}
+use Rattle.gpoly.specs.Terms.{pairs_of}
 use Rattle.closed_forms.specs.Kinds.{IsOfKind}
 use Rattle.closed_forms.proofs.PairKinds.{no_element, one_element}
 use Rattle.closed_forms.proofs.kind_of.Goals as goal

@@ -1,4 +1,4 @@
-use Rattle.std.proofs.Common.{◌≡◌, ◌∙◌, length, refl, ap}
+use Rattle.std.proofs.Common.{◌∙◌, length, refl, ap}
 use Rattle.monomials.specs.Monomials.{variable}
 use Rattle.closed_forms.proofs.PairKinds.{left_kind}
 use Rattle.closed_forms.proofs.kind_of_commutator.Goals as goal

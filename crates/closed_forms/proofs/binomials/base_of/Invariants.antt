@@ -1,4 +1,4 @@
-use Rattle.std.proofs.Common.{◌≡◌, ◌≢◌, ℕ, ◌<◌, ◌≤◌, get_or}
+use Rattle.std.proofs.Common.{◌≢◌, ℕ, ◌<◌, ◌≤◌, get_or}
 use Rattle.closed_forms.proofs.binomials.base_of.Given as goal
 
 abbrev pub invariant-loop-t : goal.invariant-loop-t

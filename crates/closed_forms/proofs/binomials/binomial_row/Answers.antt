@@ -1,4 +1,4 @@
-use Rattle.std.proofs.Common.{◌≡◌, ◌∙◌, ◌+◌, ◌*◌, ◌/◌, ◌<◌, ◌≤◌, ℕ, suc, List, refl, sym, ap, subst, arith}
+use Rattle.std.proofs.Common.{◌≡◌, ◌∙◌, ◌*◌, ◌/◌, ℕ, suc, sym, ap, subst, arith}
 use Rattle.std.proofs.Math.Nat.{div-one, div-le_self}
 use Rattle.prime_field.specs.Modular.{IsPrime}
 use Rattle.closed_forms.specs.Binomials.{gaussian, table, IsBase}

@@ -1,4 +1,4 @@
-use Rattle.std.proofs.Common.{◌≡◌, ◌+◌, ◌-◌, ◌*◌, ◌/◌, ◌<◌, ◌≤◌, suc}
+use Rattle.std.proofs.Common.{◌≡◌, ◌+◌, ◌-◌, ◌/◌, ◌≤◌, suc}
 use Rattle.closed_forms.specs.Binomials.{gaussian, table}
 use Rattle.closed_forms.proofs.Digits.{IsPower}
 use Rattle.closed_forms.proofs.binomials.binomial_row.Given as goal

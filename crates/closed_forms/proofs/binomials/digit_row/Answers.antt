@@ -1,4 +1,4 @@
-use Rattle.std.proofs.Common.{◌≡◌, ◌≢◌, ◌∙◌, ◌∷◌, [], ◌++◌, ◌+◌, ◌-◌, ◌*◌, ◌%◌, ◌<◌, ◌≤◌, ℕ, suc, length, min, refl, sym, ap, arith, mod-lt, mod-eq_of_lt}
+use Rattle.std.proofs.Common.{◌≡◌, ◌∙◌, ◌∷◌, [], ◌++◌, ◌+◌, ◌-◌, ◌*◌, ◌%◌, ℕ, suc, length, sym, ap, arith, mod-lt, mod-eq_of_lt}
 use Rattle.prime_field.specs.Modular.{IsPrime}
 use Rattle.closed_forms.specs.Binomials.{q_number, gaussian, table}
 use Rattle.closed_forms.proofs.Tables.{length-table, from_table, table_more}

@@ -1,6 +1,6 @@
-use Rattle.std.proofs.Common.{◌≡◌, ◌≢◌, ◌∙◌, ◌+◌, ◌-◌, ◌*◌, ◌/◌, ◌%◌, ◌<◌, ◌≤◌, ◌⊎◌, inl, inr, ℕ, suc, List, length, min, get_or, refl, sym, ap, subst, arith, mod-lt}
+use Rattle.std.proofs.Common.{◌≡◌, ◌∙◌, ◌/◌, ◌%◌, ℕ, suc, length, get_or, ap, arith, mod-lt}
 use Rattle.prime_field.specs.Modular.{IsPrime}
-use Rattle.closed_forms.specs.Binomials.{q_number, gaussian, table}
+use Rattle.closed_forms.specs.Binomials.{gaussian, table}
 use Rattle.closed_forms.proofs.Tables.{length-table, at_table, table_more}
 use Rattle.word_model.proofs.Acceptance.{IsField-prime}
 use Rattle.closed_forms.proofs.Digits.{quotient_within, digit_free, number_of_digit, entry_of_digits}

@@ -1,4 +1,4 @@
-use Rattle.std.proofs.Common.{◌≡◌, ◌*◌, ◌/◌, ◌%◌, ◌^◌, ◌∙◌, ℕ, sym, ap, arith}
+use Rattle.std.proofs.Common.{◌≡◌, ◌*◌, ◌%◌, ◌^◌, ◌∙◌, ℕ, sym, arith}
 use Rattle.std.proofs.Math.Nat.{pow-zero}
 use Rattle.prime_field.specs.Modular.{IsPrime}
 use Rattle.monomials.proofs.Modulo.{same_refl, same_is_rest}

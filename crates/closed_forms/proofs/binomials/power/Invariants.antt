@@ -1,4 +1,4 @@
-use Rattle.std.proofs.Common.{◌≡◌, ◌*◌, ◌^◌, ◌<◌}
+use Rattle.std.proofs.Common.{◌*◌, ◌^◌, ◌<◌}
 use Rattle.monomials.proofs.Modulo.{Same}
 use Rattle.closed_forms.proofs.binomials.power.Given as goal
 

@@ -1,5 +1,4 @@
-use Rattle.std.proofs.Common.{◌≡◌, ◌∙◌, ◌%◌, ℕ, length, ap, arith, get_or}
-use Rattle.closed_forms.specs.Binomials.{table}
+use Rattle.std.proofs.Common.{◌≡◌, ◌∙◌, ◌%◌, ℕ, length, get_or}
 use Rattle.closed_forms.specs.Forms.{pairs_of}
 use Rattle.closed_forms.specs.Paths.{place}
 use Rattle.closed_forms.proofs.Sums.{sum_of_terms_more}

@@ -1,4 +1,4 @@
-use Rattle.std.proofs.Common.{◌≡◌, ◌∙◌, ◌*◌, ◌%◌, ◌^◌, ◌<◌, ◌≤◌, ◌+◌, ℕ, suc, length, get_or, refl, sym, ap, arith, mod-lt, mod-eq_of_lt}
+use Rattle.std.proofs.Common.{◌≡◌, ◌∙◌, ◌%◌, ◌^◌, ◌<◌, ℕ, suc, length, get_or, sym, ap, arith, mod-lt, mod-eq_of_lt}
 use Rattle.std.proofs.Math.Nat.{pow-zero}
 use Rattle.prime_field.specs.Modular.{IsPrime}
 use Rattle.closed_forms.specs.Binomials.{gaussian, table}

@@ -1,7 +1,7 @@
-use Rattle.std.proofs.Common.{◌≡◌, ◌∙◌, ◌-◌, ◌*◌, ◌%◌, ◌^◌, ◌<◌, ◌≤◌, ◌+◌, min, ℕ, suc, length, refl, sym, ap, arith, mod-lt, mod-eq_of_lt}
+use Rattle.std.proofs.Common.{◌≡◌, ◌∙◌, ◌-◌, ◌*◌, ◌%◌, ◌^◌, min, ℕ, suc, length, sym, ap, arith, mod-lt, mod-eq_of_lt}
 use Rattle.std.proofs.Math.Nat.{pow-zero}
 use Rattle.prime_field.specs.Modular.{IsPrime}
-use Rattle.closed_forms.specs.Binomials.{q_number, gaussian, falling_product, table}
+use Rattle.closed_forms.specs.Binomials.{q_number, gaussian, table}
 use Rattle.closed_forms.specs.Forms.{weyl_number}
 use Rattle.closed_forms.proofs.Tables.{length-table, from_table, table_more}
 use Rattle.closed_forms.proofs.Numbers.{weyl_entry, weyl_factor}

@@ -17,6 +17,8 @@ use std::alloc::{AllocError, Global};
 mod binomials;
 pub mod laws;
 mod terms;
+#[cfg(test)]
+mod tests;
 
 /// A kind of relation of two variables, here x and y, of which y is the later one.
 #[derive(Clone, Copy, Debug, PartialEq, Eq)]

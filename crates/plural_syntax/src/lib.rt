@@ -1,0 +1,17 @@
+//! The trees of scripts.
+#![tactic(auto)]
+
+mod expressions;
+mod levels;
+mod parsing;
+mod reading;
+mod statements;
+mod tree;
+mod word;
+
+pub use parsing::{SyntaxFault, parse};
+pub use tree::{
+    Added, Base, Expr, ExprAfter, ExprList, ExprPair, Factor, Index, Item, ItemAfter, ItemList,
+    Order, Power, Scaled, Script, Side, Statement, Term, TokenAfter, TokenGroup, TokenList, Value,
+    Values, Vars,
+};

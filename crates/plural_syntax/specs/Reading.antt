@@ -237,6 +237,12 @@ module _ (inner : Option (Parser Expr)) where
   unfoldable pub print_with : Expr → Parser Statement
   print_with x = take w.Semicolon >>= λ s. pure (statement.Print x s)
 
+  unfoldable pub printed_with : Base → Parser Statement
+  printed_with b = resumed_with inner b >>= print_with
+
+  unfoldable pub expr_statement_with : Parser Statement
+  expr_statement_with = expr_with inner >>= print_with
+
   unfoldable pub defined_with : Token → Token → Token → Parser Statement
   defined_with a n e =
       when (is w.NcAlgebra) (take w.NcAlgebra >>= λ k. level (option_map pair_with inner) >>= λ g. take w.Semicolon >>= λ s. pure (statement.NcAlgebra a n e k g.0 g.1 g.2 s))
@@ -252,7 +258,7 @@ module _ (inner : Option (Parser Expr)) where
   unfoldable pub after_ideal : Token → Parser Statement
   after_ideal a =
       when (is w.Name) (take w.Name >>= λ n. maybe w.Equals values_with >>= λ v. take w.Semicolon >>= λ s. pure (statement.Ideal a n v s))
-      (called_with inner a >>= λ b. resumed_with inner b >>= print_with)
+      (called_with inner a >>= printed_with)
 
   unfoldable pub ideal_with : Parser Statement
   ideal_with = take w.Ideal >>= after_ideal
@@ -279,7 +285,7 @@ module _ (inner : Option (Parser Expr)) where
   assigned_with n (Some i) = assigned_entry n i i.second
 
   unfoldable pub after_name : Token → Option Index → Parser Statement
-  after_name n i = when (is w.Equals) (assigned_with n i) (resumed_with inner (base.Name n i) >>= print_with)
+  after_name n i = when (is w.Equals) (assigned_with n i) (printed_with (base.Name n i))
 
   unfoldable pub named_with : Parser Statement
   named_with = take w.Name >>= λ n. maybe w.OpenIndex index >>= λ i. after_name n i
@@ -297,7 +303,7 @@ module _ (inner : Option (Parser Expr)) where
   statement_from start.Short = short_statement
   statement_from start.Quit = quit_statement
   statement_from start.Name = named_with
-  statement_from start.Expr = expr_with inner >>= print_with
+  statement_from start.Expr = expr_statement_with
 
   unfoldable pub statement_with : Parser Statement
   statement_with ls = statement_from (start_of (next ls)) ls

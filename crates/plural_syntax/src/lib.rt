@@ -2,6 +2,7 @@
 #![tactic(auto)]
 
 mod expressions;
+pub mod laws;
 mod levels;
 mod parsing;
 mod reading;

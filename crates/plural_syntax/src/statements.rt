@@ -578,7 +578,7 @@ fn matrix_statement<'a>(
 }
 
 /// The statement of an expression, behind its first base.
-#[tactic(auto, unfolding(crate::specs::Reading::print_with))]
+#[tactic(auto, unfolding(crate::specs::Reading::printed_with, crate::specs::Reading::print_with))]
 fn printed<'a>(
     alloc: Global,
     bytes: &[u8],
@@ -586,7 +586,7 @@ fn printed<'a>(
     base: Base,
     tokens: &'a [Token],
 ) -> Result<(Statement, &'a [Token]), Stop<'a>>
-    ensures value { spec.Gives bytes.now result ((spec.resumed_with (spec.inside levels.old) base >>= spec.print_with) (lexemes bytes.now tokens.now)) }
+    ensures value { spec.Gives bytes.now result (spec.printed_with (spec.inside levels.old) base (lexemes bytes.now tokens.now)) }
     ensures shorter { IfOk result (λ x. length x.1.now < length tokens.now) }
     ensures same { OnOk result (levels.new ≡ levels.old) }
 {
@@ -743,14 +743,14 @@ fn named_statement<'a>(
     after_name(alloc, bytes, levels, name, index, rest)
 }
 
-#[tactic(auto, unfolding(crate::specs::Reading::print_with))]
+#[tactic(auto, unfolding(crate::specs::Reading::expr_statement_with, crate::specs::Reading::print_with))]
 fn expr_statement<'a>(
     alloc: Global,
     bytes: &[u8],
     levels: &mut Levels,
     tokens: &'a [Token],
 ) -> Result<(Statement, &'a [Token]), Stop<'a>>
-    ensures value { spec.Gives bytes.now result ((spec.expr_with (spec.inside levels.old) >>= spec.print_with) (lexemes bytes.now tokens.now)) }
+    ensures value { spec.Gives bytes.now result (spec.expr_statement_with (spec.inside levels.old) (lexemes bytes.now tokens.now)) }
     ensures shorter { IfOk result (λ x. length x.1.now < length tokens.now) }
     ensures same { OnOk result (levels.new ≡ levels.old) }
 {

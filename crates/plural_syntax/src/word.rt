@@ -1,6 +1,6 @@
 //! What a token is to the grammar.
 
-ghost use Rattle.std.specs.Prelude.{◌≡◌};
+ghost use Rattle.std.specs.Prelude.{◌≡◌, map};
 ghost use Rattle.plural_syntax.specs.Words.{head_is, is, is_either, lexeme, lexemes, look_up, next as next_of, spelled as spelled_of, text_of, word};
 
 use plural_lexer::{Token, TokenKind};
@@ -89,7 +89,7 @@ fn text<'b>(bytes: &'b [u8], token: &Token) -> &'b [u8]
 }
 
 fn find(rows: &[(&[u8], Word)], text: &[u8]) -> Word
-    ensures { result ≡ look_up text.now rows.now }
+    ensures { result ≡ look_up text.now (map (λ row. (row.0.now, row.1)) rows.now) }
 {
     for row in rows {
         if row.0 == text {
@@ -140,11 +140,5 @@ pub fn next_is(bytes: &[u8], tokens: &[Token], wanted: Word) -> bool
 pub fn next_is_either(bytes: &[u8], tokens: &[Token], one: Word, other: Word) -> bool
     ensures { result ≡ head_is (is_either one other) (lexemes bytes.now tokens.now) }
 {
-    match tokens {
-        [] => false,
-        [first, ..] => {
-            let found = word_of(bytes, first);
-            one == found || other == found
-        }
-    }
+    next_is(bytes, tokens, one) || next_is(bytes, tokens, other)
 }

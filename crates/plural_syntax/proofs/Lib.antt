@@ -4,5 +4,6 @@ pub mod Loops
 pub mod PartRules
 pub mod Readers
 pub mod Rules
+pub mod StmtRules
 pub mod Strict
 pub mod Words

@@ -1,5 +1,6 @@
 pub mod ExprRules
 pub mod Finders
+pub mod Firsts
 pub mod Loops
 pub mod OneOutcome
 pub mod PartRules

@@ -35,6 +35,11 @@ use Rattle.plural_syntax.proofs.StmtRules.{rule_statement, statement_starts}
 pub statement_rule : (n : ℕ) → Rule strict (suc (suc n)) (suc (suc n)) (statement_with (inside (suc (suc n)))) IsStatement []
 statement_rule n = rule_statement n (inside (suc (suc n))) (inside_ok (suc (suc n)))
 
+pub statement_rule_at : (d : ℕ) → 2 ≤ d → Rule strict d d (statement_with (inside d)) IsStatement []
+statement_rule_at zero h = absurd (omega arith)
+statement_rule_at (suc zero) h = absurd (omega arith)
+statement_rule_at (suc (suc n)) h = statement_rule n
+
 pub reads_statements : (n : ℕ) → Reads strict (suc (suc n)) (suc (suc n)) (statements (suc (suc n))) (Repeated IsStatement)
 unfolding statements
 reads_statements n = reads_many strict (suc (suc n)) not_end (statement_with (inside (suc (suc n)))) IsStatement (nonempty_starts not_end IsStatement statement_starts) (statement_rule n).reads

@@ -41,7 +41,8 @@ fn statements<'a>(
     levels: &mut Levels,
     tokens: &'a [Token],
 ) -> Result<(Items<Statement>, &'a [Token]), Stop<'a>>
-    ensures value { spec.Gives bytes.now result (spec.statements levels.old (lexemes bytes.now tokens.now)) }
+    requires { 2 ≤ levels.old }
+    ensures value { spec.Gives bytes.now result (spec.many spec.not_end (spec.statement_with (spec.inside levels.old)) (lexemes bytes.now tokens.now)) }
     ensures shorter { IfOk result (λ x. length x.1.now ≤ length tokens.now) }
     ensures same { OnOk result (levels.new ≡ levels.old) }
 {
@@ -55,13 +56,14 @@ fn statements<'a>(
     Ok((found, rest))
 }
 
-#[tactic(auto, unfolding(crate::specs::Reading::script))]
+#[tactic(auto, unfolding(crate::specs::Reading::script, crate::specs::Reading::statements))]
 fn script<'a>(
     alloc: Global,
     bytes: &[u8],
     levels: &mut Levels,
     tokens: &'a [Token],
 ) -> Result<(Script, &'a [Token]), Stop<'a>>
+    requires { 2 ≤ levels.old }
     ensures value { spec.Gives bytes.now result (spec.script levels.old (lexemes bytes.now tokens.now)) }
     ensures shorter { IfOk result (λ x. length x.1.now < length tokens.now) }
     ensures same { OnOk result (levels.new ≡ levels.old) }

@@ -128,12 +128,18 @@ pub fn next(bytes: &[u8], tokens: &[Token]) -> Option<Word>
     }
 }
 
+fn same(one: Word, other: Word) -> bool
+    ensures { result ≡ is one other }
+{
+    one == other
+}
+
 pub fn next_is(bytes: &[u8], tokens: &[Token], wanted: Word) -> bool
     ensures { result ≡ head_is (is wanted) (lexemes bytes.now tokens.now) }
 {
     match tokens {
         [] => false,
-        [first, ..] => wanted == word_of(bytes, first),
+        [first, ..] => same(wanted, word_of(bytes, first)),
     }
 }
 

@@ -5,11 +5,11 @@ use Rattle.plural_syntax.specs.Reading as spec
 use Rattle.plural_syntax.proofs.Readers.{prepend}
 use Rattle.plural_syntax.proofs.reading.tokens_after.Given as goal
 
-abbrev pub invariant-loop-alloc : goal.invariant-loop-alloc
-invariant-loop-alloc l = record {
+abbrev pub invariant-loop-wanted : goal.invariant-loop-wanted
+invariant-loop-wanted l = record {
   shorter : length l.rest ≤ length l.initial.rest;
   value : prepend l.found (spec.many (is w.Comma) (spec.token_after l.wanted) (lexemes l.bytes l.rest)) ≡ spec.many (is w.Comma) (spec.token_after l.wanted) (lexemes l.bytes l.initial.rest);
 }
 
-abbrev pub decreases-loop-alloc : goal.decreases-loop-alloc
-decreases-loop-alloc l = length l.rest
+abbrev pub decreases-loop-wanted : goal.decreases-loop-wanted
+decreases-loop-wanted l = length l.rest

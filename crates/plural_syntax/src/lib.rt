@@ -7,6 +7,8 @@ mod levels;
 mod parsing;
 mod reading;
 mod statements;
+#[cfg(test)]
+mod tests;
 mod tree;
 mod word;
 

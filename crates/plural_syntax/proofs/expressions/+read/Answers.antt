@@ -13,12 +13,12 @@ pub all_scaled-returns-clause-value : goal.all_scaled-returns-clause-value
 all_scaled-returns-clause-value t c = repeats_end (is_either w.Times w.Over) scaled_starts (scaled_rule c.args.levels.now) c.loop-alloc.found _ (lexemes c.args.bytes.now c.loop-alloc.rest.now) c.loop-alloc.invariant.value (sym c.next_is_either.ensures ∙ c.loop-alloc-test.false)
 
 pub all_scaled-returns-in_err-one-clause-value : goal.all_scaled-returns-in_err-one-clause-value
-all_scaled-returns-in_err-one-clause-value t c = 
+all_scaled-returns-in_err-one-clause-value t c =
     let p = err_from_is_err_and c.from_residual.result c.from_residual.ensures.1 in
     rw (p.1, p.2) (repeats_fail (is_either w.Times w.Over) scaled_starts (scaled_rule c.args.levels.now) c.loop-alloc.found _ (lexemes c.args.bytes.now c.loop-alloc.rest.now) c.loop-alloc.invariant.value (sym c.next_is_either.ensures ∙ c.loop-alloc-test.true) c.args.bytes.now c.in_err-one.field-0.0 (rw c.loop-alloc.invariant.same at c.in_err-one.ensures.value))
 
 pub all_scaled-loop-alloc-preserved : goal.all_scaled-loop-alloc-preserved
-all_scaled-loop-alloc-preserved t c = 
+all_scaled-loop-alloc-preserved t c =
     let go = repeats_go (is_either w.Times w.Over) scaled_starts (scaled_rule c.args.levels.now) c.loop-alloc.found _ (lexemes c.args.bytes.now c.loop-alloc.rest.now) c.loop-alloc.invariant.value (sym c.next_is_either.ensures ∙ c.loop-alloc-test.true) c.in_ok-one.one _ (rw c.loop-alloc.invariant.same at c.in_ok-one.ensures.value) in
     record { same = c.in_ok-one.ensures.same ∙ c.loop-alloc.invariant.same; shorter = omega (arith, c.in_ok-one.ensures.shorter); value = rw c.in_ok-push.ensures.ok go }
 
@@ -26,12 +26,12 @@ pub all_added-returns-clause-value : goal.all_added-returns-clause-value
 all_added-returns-clause-value t c = repeats_end (is_either w.Plus w.Minus) added_starts (added_rule c.args.levels.now) c.loop-alloc.found _ (lexemes c.args.bytes.now c.loop-alloc.rest.now) c.loop-alloc.invariant.value (sym c.next_is_either.ensures ∙ c.loop-alloc-test.false)
 
 pub all_added-returns-in_err-one-clause-value : goal.all_added-returns-in_err-one-clause-value
-all_added-returns-in_err-one-clause-value t c = 
+all_added-returns-in_err-one-clause-value t c =
     let p = err_from_is_err_and c.from_residual.result c.from_residual.ensures.1 in
     rw (p.1, p.2) (repeats_fail (is_either w.Plus w.Minus) added_starts (added_rule c.args.levels.now) c.loop-alloc.found _ (lexemes c.args.bytes.now c.loop-alloc.rest.now) c.loop-alloc.invariant.value (sym c.next_is_either.ensures ∙ c.loop-alloc-test.true) c.args.bytes.now c.in_err-one.field-0.0 (rw c.loop-alloc.invariant.same at c.in_err-one.ensures.value))
 
 pub all_added-loop-alloc-preserved : goal.all_added-loop-alloc-preserved
-all_added-loop-alloc-preserved t c = 
+all_added-loop-alloc-preserved t c =
     let go = repeats_go (is_either w.Plus w.Minus) added_starts (added_rule c.args.levels.now) c.loop-alloc.found _ (lexemes c.args.bytes.now c.loop-alloc.rest.now) c.loop-alloc.invariant.value (sym c.next_is_either.ensures ∙ c.loop-alloc-test.true) c.in_ok-one.one _ (rw c.loop-alloc.invariant.same at c.in_ok-one.ensures.value) in
     record { same = c.in_ok-one.ensures.same ∙ c.loop-alloc.invariant.same; shorter = omega (arith, c.in_ok-one.ensures.shorter); value = rw c.in_ok-push.ensures.ok go }
 
@@ -39,12 +39,12 @@ pub exprs_after-returns-clause-value : goal.exprs_after-returns-clause-value
 exprs_after-returns-clause-value t c = repeats_end (is w.Comma) expr_after_starts (expr_after_rule c.args.levels.now) c.loop-alloc.found _ (lexemes c.args.bytes.now c.loop-alloc.rest.now) c.loop-alloc.invariant.value (sym c.next_is.ensures ∙ c.loop-alloc-test.false)
 
 pub exprs_after-returns-in_err-one-clause-value : goal.exprs_after-returns-in_err-one-clause-value
-exprs_after-returns-in_err-one-clause-value t c = 
+exprs_after-returns-in_err-one-clause-value t c =
     let p = err_from_is_err_and c.from_residual.result c.from_residual.ensures.1 in
     rw (p.1, p.2) (repeats_fail (is w.Comma) expr_after_starts (expr_after_rule c.args.levels.now) c.loop-alloc.found _ (lexemes c.args.bytes.now c.loop-alloc.rest.now) c.loop-alloc.invariant.value (sym c.next_is.ensures ∙ c.loop-alloc-test.true) c.args.bytes.now c.in_err-one.field-0.0 (rw c.loop-alloc.invariant.same at c.in_err-one.ensures.value))
 
 pub exprs_after-loop-alloc-preserved : goal.exprs_after-loop-alloc-preserved
-exprs_after-loop-alloc-preserved t c = 
+exprs_after-loop-alloc-preserved t c =
     let go = repeats_go (is w.Comma) expr_after_starts (expr_after_rule c.args.levels.now) c.loop-alloc.found _ (lexemes c.args.bytes.now c.loop-alloc.rest.now) c.loop-alloc.invariant.value (sym c.next_is.ensures ∙ c.loop-alloc-test.true) c.in_ok-one.one _ (rw c.loop-alloc.invariant.same at c.in_ok-one.ensures.value) in
     record { same = c.in_ok-one.ensures.same ∙ c.loop-alloc.invariant.same; shorter = omega (arith, c.in_ok-one.ensures.shorter); value = rw c.in_ok-push.ensures.ok go }
 

@@ -18,7 +18,7 @@ use Rattle.plural_syntax.specs.Levels.{Step, on_some, walk, down, levels}
 use Rattle.plural_syntax.specs.Grammar.{Lang, Repeated, IsStatement, IsScript}
 use Rattle.plural_syntax.specs.Grammar.IsScript.{script as is_script}
 use Rattle.plural_syntax.specs.Outcome.{BeginsScript, IsParsed, IsUnexpected, IsTooDeep}
-use Rattle.plural_syntax.specs.Reading.{Why, Answer, Parser, pure, ◌>>=◌, take, inside, statement_with, not_end, statements, script}
+use Rattle.plural_syntax.specs.Reading.{Why, Answer, Parser, pure, and_then, ◌>>=◌, take, inside, statement_with, not_end, statements, script}
 use Rattle.plural_syntax.specs.Reading.Why.{unexpected, deep}
 use Rattle.plural_syntax.proofs.Readers.{Begins, Stops, StopsOk, StopsBad, StopsDeep, Reads, Seq, Takes, Nothing, reads_weak, reads_bind, reads_take, reads_pure, reads_many}
 use Rattle.plural_syntax.proofs.Readers.Seq.{seq}
@@ -188,6 +188,89 @@ bad_at ls bytes (x ∷ xs) d h e = parse_bad ls (lexeme bytes x) (lexemes bytes 
 pub deep_at : (ls : List Lexeme) (bytes : List ℕ) (xs : List Token) (d : Token) → 1 ≤ length xs → script 64 ls ≡ Err (deep, lexemes bytes xs) → IsTooDeep ls (get_or xs 0 d).line (get_or xs 0 d).column
 deep_at ls bytes [] d h e = absurd (omega arith)
 deep_at ls bytes (x ∷ xs) d h e = parse_deep ls (lexeme bytes x) (lexemes bytes xs) e
+
+-- ---- a script stops at a token
+
+abbrev AllPlain : List Lexeme → Type 0
+AllPlain [] = Unit {0}
+AllPlain (x ∷ xs) = (is w.End (word x) ≡ false) × AllPlain xs
+
+not_none : (c : Bool) (o : Option ℕ) (e : ℕ) → cond c None o ≡ Some e → c ≡ false
+not_none true o e h = cc
+not_none false o e h = refl
+
+no_some : (u : ℕ) → None ≡ Some u → ⊥
+no_some u e = cc
+
+plain_at : (o : Option ℕ) (f : ℕ → Option ℕ) (u : ℕ) (P : Type 0) → ((e : ℕ) → o ≡ Some e → f e ≡ Some u → P) → on_some o f ≡ Some u → P
+plain_at None f u P h e = absurd (no_some u e)
+plain_at (Some d) f u P h e = h d refl e
+
+plain_walk : (d : ℕ) (xs : List Lexeme) (u : ℕ) → walk strict d xs ≡ Some u → AllPlain xs
+plain_walk d [] u e = tt
+plain_walk d (x ∷ xs) u e = plain_at (strict d (word x)) (λ t. walk strict t xs) u (AllPlain (x ∷ xs)) (λ t h k. (not_none (is w.End (word x)) (levels d (word x)) t h, plain_walk t xs u k)) e
+
+not_plain : (bytes : List ℕ) (front : List Token) (z : Token) → z.kind ≡ kind.End → AllPlain (lexemes bytes (front ++ z ∷ [])) → ⊥
+not_plain bytes [] z k h = true≢false (sym (ap (λ q. is w.End (word_of q (lexeme bytes z).text)) k) ∙ h.0)
+not_plain bytes (t ∷ front) z k h = not_plain bytes front z k h.1
+
+tokens_not_plain : (bytes : List ℕ) (ts : List Token) → AreTokensOf bytes ts → AllPlain (lexemes bytes ts) → ⊥
+tokens_not_plain bytes ts d h =
+    let v = ends_well [] bytes (Ok ts) d in
+    not_plain bytes v.0 (end_of bytes) refl (subst (λ us. AllPlain (lexemes bytes us)) v.1 h)
+
+abbrev Finish : List Statement → Parser Script
+Finish ss = take w.End >>= λ e. pure (record { statements = ss; end = e })
+
+-- a stop behind all tokens
+abbrev IsStopAtNil : Answer Script → Type 0
+IsStopAtNil (Ok x) = ⊥
+IsStopAtNil (Err (unexpected, [])) = Unit {0}
+IsStopAtNil (Err (unexpected, y ∷ ys)) = ⊥
+IsStopAtNil (Err (deep, rest)) = ⊥
+
+stop_at_nil : (r : Answer Script) → r ≡ Err (unexpected, []) → IsStopAtNil r
+stop_at_nil r e = subst IsStopAtNil (sym e) tt
+
+taken_nil : (ss : List Statement) (c : Bool) (y : Lexeme) (ys : List Lexeme) → and_then {B = Script} (cond c (Ok (y.token, ys)) (Err (unexpected, y ∷ ys))) (λ e. pure (record { statements = ss; end = e })) ≡ Err (unexpected, []) → ⊥
+taken_nil ss true y ys e = stop_at_nil _ e
+taken_nil ss false y ys e = stop_at_nil _ e
+
+finished_nil : (ls : List Lexeme) (ss : List Statement) (rest : List Lexeme) → StopsOk strict 64 64 (statements 64) (Repeated IsStatement) ls ss rest → Finish ss rest ≡ Err (unexpected, []) → AllPlain ls
+finished_nil ls ss [] s e = subst AllPlain (sym (s.split ∙ append-nil s.front)) (plain_walk 64 s.front 64 s.keeps)
+finished_nil ls ss (y ∷ ys) s e = absurd (taken_nil ss (is w.End (word y)) y ys e)
+
+other_end : (y : Lexeme) (ys : List Lexeme) → ◌≡◌ {A = Answer Script} (Err (unexpected, y ∷ ys)) (Err (unexpected, [])) → ⊥
+other_end y ys e = stop_at_nil _ e
+
+other_fault : (rest : List Lexeme) → ◌≡◌ {A = Answer Script} (Err (deep, rest)) (Err (unexpected, [])) → ⊥
+other_fault rest e = stop_at_nil _ e
+
+stops_nil : (ls : List Lexeme) (r : Answer (List Statement)) → Stops strict 64 64 (statements 64) (Repeated IsStatement) ls r → and_then r Finish ≡ Err (unexpected, []) → AllPlain ls
+stops_nil ls (Ok x) s e = finished_nil ls x.0 x.1 s e
+stops_nil ls (Err (unexpected, [])) s e = subst AllPlain (sym (s.split ∙ append-nil s.front)) (plain_walk 64 s.front s.left s.keeps)
+stops_nil ls (Err (unexpected, y ∷ ys)) s e = absurd (other_end y ys e)
+stops_nil ls (Err (deep, rest)) s e = absurd (other_fault rest e)
+
+unexpected_somewhere : (bytes : List ℕ) (ts : List Token) → AreTokensOf bytes ts → script 64 (lexemes bytes ts) ≡ Err (unexpected, []) → ⊥
+unfolding script
+unexpected_somewhere bytes ts d e = tokens_not_plain bytes ts d (stops_nil (lexemes bytes ts) (statements 64 (lexemes bytes ts)) ((reads_statements 62).stops (lexemes bytes ts)) e)
+
+no_opener : (x : Lexeme) (xs : List Lexeme) → [] ≡ x ∷ xs → ⊥
+no_opener x xs e = cc
+
+deep_somewhere : (ls : List Lexeme) → script 64 ls ≡ Err (deep, []) → ⊥
+deep_somewhere ls e =
+    let stop = subst (Stops levels 64 64 (script 64) IsScript ls) e ((reads_script 62).stops ls) in
+    no_opener stop.opener stop.more stop.at_opener
+
+pub bad_somewhere : (bytes : List ℕ) (ts xs : List Token) → AreTokensOf bytes ts → length xs < 1 → script 64 (lexemes bytes ts) ≡ Err (unexpected, lexemes bytes xs) → ⊥
+bad_somewhere bytes ts [] d h e = unexpected_somewhere bytes ts d e
+bad_somewhere bytes ts (x ∷ xs) d h e = absurd (omega arith)
+
+pub too_deep_somewhere : (bytes : List ℕ) (ts xs : List Token) → length xs < 1 → script 64 (lexemes bytes ts) ≡ Err (deep, lexemes bytes xs) → ⊥
+too_deep_somewhere bytes ts [] h e = deep_somewhere (lexemes bytes ts) e
+too_deep_somewhere bytes ts (x ∷ xs) h e = absurd (omega arith)
 
 -- ---- one tree
 

@@ -89,7 +89,15 @@ pub fn parse(alloc: Global, bytes: &[u8], tokens: &[Token]) -> Result<Script, Sy
             line: here.line,
             column: here.column,
         }),
-        // A script stops at a token.
-        Err(Stop::Unexpected([]) | Stop::Deep([]) | Stop::Memory) => Err(SyntaxFault::Memory),
+        Err(Stop::Memory) => Err(SyntaxFault::Memory),
+        // A script stops at a token, since an end stands last.
+        Err(Stop::Unexpected([])) => {
+            prove!(false);
+            Err(SyntaxFault::Memory)
+        }
+        Err(Stop::Deep([])) => {
+            prove!(false);
+            Err(SyntaxFault::Memory)
+        }
     }
 }

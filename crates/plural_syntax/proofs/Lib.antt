@@ -1,0 +1,12 @@
+pub mod ExprRules
+pub mod Finders
+pub mod Firsts
+pub mod Loops
+pub mod OneOutcome
+pub mod PartRules
+pub mod Readers
+pub mod Rules
+pub mod ScriptRules
+pub mod StmtRules
+pub mod Strict
+pub mod Words

@@ -1,0 +1,20 @@
+//! Laws of the grammar, each the contract of a function without a body.
+
+ghost use Rattle.std.specs.Prelude.{◌≡◌, ◌≢◌, List, Result, Err};
+ghost use Rattle.plural_syntax.specs.declared.tree.Script.{Script};
+ghost use Rattle.plural_syntax.specs.declared.parsing.SyntaxFault.{SyntaxFault};
+ghost use Rattle.plural_syntax.specs.declared.parsing.SyntaxFault.TheVariants as fault;
+ghost use Rattle.plural_syntax.specs.Words.{Lexeme};
+ghost use Rattle.plural_syntax.specs.Grammar.{IsScript};
+ghost use Rattle.plural_syntax.specs.Outcome.{Answers};
+
+/// Tokens spell one script at most.
+pub fn one_tree()
+    ensures { (ls : List Lexeme) (s t : Script) → IsScript s ls → IsScript t ls → s ≡ t }
+{}
+
+/// Tokens have one answer at most, so each of `parse` comes exactly where its condition holds.
+pub fn one_answer()
+    ensures { (ls : List Lexeme) (r s : Result Script SyntaxFault) →
+        r ≢ Err fault.Memory → s ≢ Err fault.Memory → Answers ls r → Answers ls s → r ≡ s }
+{}

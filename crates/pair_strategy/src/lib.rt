@@ -1,0 +1,13 @@
+//! Which job of a run comes next: keys, the queue in their order, and the chain rule.
+#![tactic(auto)]
+
+pub use keys::{Keyed, job_key};
+pub use queue::Queue;
+pub use witness::chain_witness;
+
+mod keys;
+pub mod laws;
+mod queue;
+#[cfg(test)]
+mod tests;
+mod witness;

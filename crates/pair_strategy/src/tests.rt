@@ -1,0 +1,315 @@
+//! Worked queues and witnesses. Polynomials are monomials, as the digits of their exponents.
+
+ghost use Rattle.std.specs.Prelude.{◌≡◌, ◌≢◌, ℕ, ◌≤◌, ◌<◌, ◌++◌, ◌∷◌, [], IfOk, OnOk, length};
+ghost use Rattle.monomials.specs.Monomials.{degree};
+ghost use Rattle.monomials.specs.Polynomials.{Each, HasVars};
+ghost use Rattle.word_model.specs.Reduction.{element};
+
+use super::*;
+use gpoly::{GPoly, Term};
+use monomials::{Block, Expo, Order};
+use prime_field::Field;
+use run_records::{Elements, Job};
+use std::alloc::{AllocError, Global};
+use std::test::Fail;
+
+// The monomial with these digits as exponents.
+fn monomial(digits: &[u8]) -> Result<Expo, Fail>
+    ensures { IfOk result (λ m. degree m ≤ 4095) }
+{
+    let digit = |byte: u8| u16::from(byte.saturating_sub(b'0'));
+    match digits {
+        [x, y] => Ok(Expo::of(&[digit(*x), digit(*y)])),
+        [x, y, z] => Ok(Expo::of(&[digit(*x), digit(*y), digit(*z)])),
+        [x, y, z, t] => Ok(Expo::of(&[digit(*x), digit(*y), digit(*z), digit(*t)])),
+        _ => Err("a monomial has two to four exponents".into()),
+    }
+}
+
+// The polynomial that is this monomial.
+fn poly(alloc: Global, order: &Order, digits: &str) -> Result<GPoly, Fail>
+    ensures { IfOk result (λ f. HasVars order.now.vars f) }
+{
+    let field = Field::of(7)?;
+    let mono = monomial(digits.as_bytes())?;
+    if mono.len() != order.vars() {
+        return Err("a monomial has an exponent for each variable".into());
+    }
+    let coef = field.from_int(1);
+    let poly = GPoly::from_terms(alloc, field, order, &[Term { coef, mono }])?;
+    Ok(poly)
+}
+
+fn push_poly(polys: &mut Vec<GPoly>, poly: GPoly) -> Result<(), AllocError>
+    ensures { OnOk result (polys.new.items ≡ polys.old.items ++ poly ∷ []) }
+{
+    polys.push(poly)?;
+    Ok(())
+}
+
+// The monomials of a text.
+fn polys(alloc: Global, order: &Order, text: &str) -> Result<Vec<GPoly>, Fail>
+    ensures { IfOk result (λ fs. Each (HasVars order.now.vars) fs.items) }
+{
+    let mut polys = Vec::new(alloc);
+    for piece in text.split(' ') {
+        let part = poly(alloc, order, piece)?;
+        push_poly(&mut polys, part)?;
+    }
+    Ok(polys)
+}
+
+// The order by degree, and then reverse lexicographically.
+fn by_degree(alloc: Global, n: usize) -> Result<Order, Fail>
+    requires some { 1 ≤ n }
+    requires few { n ≤ 16 }
+{
+    Ok(Order::new(alloc, &[Block::DegRev { len: n }], n)?)
+}
+
+// Two numbers of elements, as the digits of a text, where there are nonzero elements of these.
+fn pair(basis: &Vec<GPoly>, text: &str) -> Result<(u32, u32), Fail>
+    ensures { IfOk result (λ (i, j). (1 ≤ i) × (i < j) × (j ≤ length basis.now.items)
+        × (element basis.now.items i ≢ []) × (element basis.now.items j ≢ [])) }
+{
+    let [i, j] = text.as_bytes() else {
+        return Err("a pair has two digits".into());
+    };
+    let i = u32::from(i.saturating_sub(b'0'));
+    let j = u32::from(j.saturating_sub(b'0'));
+    if i == 0 || i >= j || j as usize > basis.len() {
+        return Err("a pair is of two elements".into());
+    }
+    if basis.at(i).is_zero() || basis.at(j).is_zero() {
+        return Err("elements are not zero".into());
+    }
+    Ok((i, j))
+}
+
+// The pair with its key.
+fn pair_key(basis: &Vec<GPoly>, text: &str) -> Result<Keyed, Fail>
+    requires { (n : ℕ) × Each (HasVars n) basis.now.items }
+{
+    let (i, j) = pair(basis, text)?;
+    Ok(job_key(basis, &[], &Job::Pair { i, j }))
+}
+
+// Queues a job that is not queued.
+fn push(alloc: Global, queue: &mut Queue, order: &Order, item: Keyed) -> Result<(), Fail>
+    requires { queue.old.order ≡ order.now }
+    ensures { queue.new.order ≡ order.now }
+{
+    if queue.holds(&item.job) || item.mono.len() != order.vars() {
+        return Err("a job is queued once, in the variables of the order".into());
+    }
+    queue.reserve(alloc, 1)?;
+    queue.push(item);
+    Ok(())
+}
+
+fn push_job(text: &mut String, job: &Job) -> Result<(), AllocError> {
+    match job {
+        Job::Seed { s } => write!(text, "Seed {s}\n")?,
+        Job::Pair { i, j } => write!(text, "Pair {i} {j}\n")?,
+        Job::Right { i, v } => write!(text, "Right {i} {v}\n")?,
+    }
+    Ok(())
+}
+
+// The jobs that are ahead, and then the same as they are taken.
+fn drain(alloc: Global, queue: &mut Queue, k: usize) -> Result<String, AllocError> {
+    let mut text = String::new(alloc);
+    for job in &queue.ahead(alloc, k)? {
+        push_job(&mut text, job)?;
+    }
+    text.push_str("taken:\n")?;
+    for _ in 0..k {
+        if let Some(item) = queue.take_first() {
+            push_job(&mut text, &item.job)?;
+        }
+    }
+    Ok(text)
+}
+
+// A queue of these pairs.
+fn queued(alloc: Global, order: &Order, basis: &Vec<GPoly>, pairs: &str) -> Result<Queue, Fail>
+    requires { (n : ℕ) × Each (HasVars n) basis.now.items }
+{
+    let mut queue = Queue::new(alloc, order)?;
+    for text in pairs.lines() {
+        let item = pair_key(basis, text)?;
+        push(alloc, &mut queue, order, item)?;
+    }
+    Ok(queue)
+}
+
+// Elements of these monomials, and a queue of pairs of them.
+fn made(alloc: Global, n: usize, elements: &str, pairs: &str) -> Result<(Vec<GPoly>, Queue), Fail>
+    requires some { 1 ≤ n }
+    requires few { n ≤ 16 }
+    ensures { IfOk result (λ (basis, _). (n : ℕ) × Each (HasVars n) basis.items) }
+{
+    let order = by_degree(alloc, n)?;
+    let basis = polys(alloc, &order, elements)?;
+    let queue = queued(alloc, &order, &basis, pairs)?;
+    Ok((basis, queue))
+}
+
+const EQUAL_LCMS: &str = "\
+Pair 1 2
+Pair 1 3
+Pair 2 3
+Pair 1 4
+taken:
+Pair 1 2
+Pair 1 3
+Pair 2 3
+Pair 1 4
+";
+
+#[test]
+fn pairs_of_equal_lcms_go_by_their_second_element(rt: HostRuntime) -> Result<(), Fail> {
+    let alloc = rt.alloc();
+    let (_, mut queue) = made(alloc, 4, "0111 1011 1101 1110", "34\n12\n24\n13\n23\n14")?;
+    let text = drain(alloc, &mut queue, 4)?;
+    assert_eq!(rt; text.as_str(), EQUAL_LCMS);
+    let text = drain(alloc, &mut queue, 4)?;
+    assert_eq!(rt;
+        text.as_str(),
+        "Pair 2 4\nPair 3 4\ntaken:\nPair 2 4\nPair 3 4\n"
+    );
+    Ok(())
+}
+
+// The job with this key, as the digits of a text: the exponents of its monomial, its kind, and its
+// numbers.
+fn keyed(text: &str) -> Result<Keyed, Fail> {
+    let digit = |byte: u8| u32::from(byte.saturating_sub(b'0'));
+    let (digits, job) = match text.as_bytes() {
+        [x, y, b's', s] => ([*x, *y], Job::Seed { s: digit(*s) }),
+        [x, y, b'p', i, j] => (
+            [*x, *y],
+            Job::Pair {
+                i: digit(*i),
+                j: digit(*j),
+            },
+        ),
+        [x, y, b'r', i, v] => (
+            [*x, *y],
+            Job::Right {
+                i: digit(*i),
+                v: v.saturating_sub(b'0'),
+            },
+        ),
+        _ => return Err("a job has a monomial, a kind and one or two numbers".into()),
+    };
+    Ok(Keyed {
+        mono: monomial(&digits)?,
+        job,
+    })
+}
+
+const PUSHES: &str =
+    "11s2\n11p13\n11p23\n11p12\n11r12\n11r21\n11r11\n11s1\n02s3\n20s4\n10p45\n03p14";
+
+const TAKES: &str = "\
+Pair 4 5
+Seed 3
+Seed 1
+Seed 2
+Pair 1 2
+Pair 1 3
+Pair 2 3
+Right 1 1
+Right 1 2
+Right 2 1
+Seed 4
+Pair 1 4
+taken:
+Pair 4 5
+Seed 3
+Seed 1
+Seed 2
+Pair 1 2
+Pair 1 3
+Pair 2 3
+Right 1 1
+Right 1 2
+Right 2 1
+Seed 4
+Pair 1 4
+";
+
+// A queue of these jobs.
+fn queued_jobs(alloc: Global, order: &Order, jobs: &str) -> Result<Queue, Fail> {
+    let mut queue = Queue::new(alloc, order)?;
+    for text in jobs.lines() {
+        let item = keyed(text)?;
+        push(alloc, &mut queue, order, item)?;
+    }
+    Ok(queue)
+}
+
+#[test]
+fn jobs_go_by_monomials_then_kinds_then_numbers(rt: HostRuntime) -> Result<(), Fail> {
+    let alloc = rt.alloc();
+    let mut queue = queued_jobs(alloc, &by_degree(alloc, 2)?, PUSHES)?;
+    let text = drain(alloc, &mut queue, 20)?;
+    assert_eq!(rt; text.as_str(), TAKES);
+    Ok(())
+}
+
+// The witness of a pair.
+fn witness(queue: &Queue, basis: &Vec<GPoly>, text: &str) -> Result<Option<u32>, Fail>
+    requires { (n : ℕ) × Each (HasVars n) basis.now.items }
+{
+    let (i, j) = pair(basis, text)?;
+    if basis.len() > 2048 {
+        return Err("a basis has at most 2048 elements".into());
+    }
+    Ok(chain_witness(queue, basis, i, j))
+}
+
+// The witnesses of these pairs, one a line.
+fn witnesses(alloc: Global, queue: &Queue, basis: &Vec<GPoly>, pairs: &str) -> Result<String, Fail>
+    requires { (n : ℕ) × Each (HasVars n) basis.now.items }
+{
+    let mut text = String::new(alloc);
+    for pair in pairs.lines() {
+        match witness(queue, basis, pair)? {
+            Some(k) => write!(text, "{pair} by {k}\n")?,
+            None => write!(text, "{pair} by none\n")?,
+        }
+    }
+    Ok(text)
+}
+
+// The witnesses of pairs of these elements, while others are queued.
+fn skips(alloc: Global, n: usize, elements: &str, queued: &str, pairs: &str) -> Result<String, Fail>
+    requires some { 1 ≤ n }
+    requires few { n ≤ 16 }
+{
+    let (basis, queue) = made(alloc, n, elements, queued)?;
+    witnesses(alloc, &queue, &basis, pairs)
+}
+
+#[test]
+fn a_pair_is_skipped_by_two_that_are_not_queued(rt: HostRuntime) -> Result<(), Fail> {
+    let alloc = rt.alloc();
+    let text = skips(alloc, 3, "110 011 101", "", "12\n13\n23")?;
+    assert_eq!(rt; text.as_str(), "12 by 3\n13 by 2\n23 by 1\n");
+    let text = skips(alloc, 3, "110 011 101", "13", "12\n13\n23")?;
+    assert_eq!(rt; text.as_str(), "12 by none\n13 by 2\n23 by none\n");
+    Ok(())
+}
+
+#[test]
+fn the_least_witness_counts(rt: HostRuntime) -> Result<(), Fail> {
+    let alloc = rt.alloc();
+    let elements = "0111 1011 1101 1110 0002";
+    let text = skips(alloc, 4, elements, "", "34\n12\n15")?;
+    assert_eq!(rt; text.as_str(), "34 by 1\n12 by 3\n15 by none\n");
+    let text = skips(alloc, 4, elements, "13", "34\n12")?;
+    assert_eq!(rt; text.as_str(), "34 by 2\n12 by 4\n");
+    Ok(())
+}

@@ -1,11 +1,9 @@
 -- What a push keeps, and the jobs that come next.
-use Rattle.std.proofs.Common.{◌≡◌, ℕ, ◌+◌, ◌-◌, ◌<◌, false, List, [], ◌∷◌, ◌++◌, length, reverse, take, get_or, map, refl, sym, ap, ◌∙◌, subst, arith}
+use Rattle.std.proofs.Common.{◌≡◌, ℕ, ◌+◌, ◌-◌, ◌<◌, false, List, [], ◌∷◌, ◌++◌, length, reverse, take, get_or, sym, ap, ◌∙◌, subst, arith}
 use Rattle.std.proofs.lemmas.List.{take_more, get_or-map, get_or-reverse, length-map, length-reverse}
-use Rattle.monomials.specs.Orders.{RowOrder}
-use Rattle.monomials.specs.Polynomials.{Each}
 use Rattle.word_model.specs.Jobs.{is_queued}
 use Rattle.word_model.specs.declared.records.Job.{Job}
-use Rattle.pair_strategy.specs.Queues.{JobQueue, jobs_in, with_item, IsRising, IsSet, IsQueue}
+use Rattle.pair_strategy.specs.Queues.{JobQueue, jobs_in, with_item, IsQueue}
 use Rattle.pair_strategy.specs.declared.keys.Keyed.{Keyed}
 use Rattle.pair_strategy.proofs.Members.{set-with_item}
 use Rattle.pair_strategy.proofs.Placing.{Each-with_item, rising-with_item}

@@ -1,5 +1,5 @@
 -- The least job of a list is the first of a queue that has the same jobs.
-use Rattle.std.proofs.Common.{◌≡◌, ◌⊎◌, inl, inr, ◌||◌, Bool, true, false, List, [], ◌∷◌, if◌then◌else◌, refl, sym, ap, ◌∙◌, subst}
+use Rattle.std.proofs.Common.{◌≡◌, ◌⊎◌, inl, inr, ◌||◌, Bool, true, false, List, [], ◌∷◌, if◌then◌else◌, refl, sym, ap, ◌∙◌}
 use Rattle.std.proofs.Common.{Ordering, Less, is_lt}
 use Rattle.std.specs.Ordering.{ordering_then}
 use Rattle.monomials.specs.Monomials.{Monomial}

@@ -1,13 +1,11 @@
 -- Which jobs a list has.
-use Rattle.std.proofs.Common.{◌≡◌, ℕ, zero, suc, ◌||◌, ◌&&◌, not, ◌⊎◌, inl, inr, Bool, true, false, List, [], ◌∷◌, ◌++◌, length, Option, if◌then◌else◌, reverse, nat_lt, ◌==◌, refl, sym, ap, ◌∙◌, subst}
-use Rattle.std.specs.List.{list_any, filter}
-use Rattle.std.proofs.lemmas.List.Folds.{list_any-append}
+use Rattle.std.proofs.Common.{◌≡◌, ℕ, zero, suc, ◌||◌, ◌&&◌, not, ◌⊎◌, inl, inr, Bool, true, false, List, [], ◌∷◌, ◌++◌, length, if◌then◌else◌, reverse, nat_lt, refl, sym, ap, ◌∙◌, subst}
 use Rattle.std.specs.Ordering.{is_lt}
 use Rattle.gpoly.proofs.Lists.{reverse-cons}
 use Rattle.monomials.specs.Orders.{RowOrder}
-use Rattle.monomials.specs.Polynomials.{Polynomial, Each}
-use Rattle.word_model.specs.Reduction.{element, least_number, lead_divides}
-use Rattle.word_model.specs.Jobs.{same_job, is_queued, without, pair_lcm, pair_queued, is_witness, chain_witness}
+use Rattle.monomials.specs.Polynomials.{Polynomial}
+use Rattle.word_model.specs.Reduction.{least_number}
+use Rattle.word_model.specs.Jobs.{same_job, is_queued, without, pair_queued, is_witness, chain_witness}
 use Rattle.word_model.specs.declared.records.Job.{Job}
 use Rattle.word_model.specs.declared.records.Job.TheVariants.{Seed, Pair, Right}
 use Rattle.pair_strategy.specs.Queues.{keyed_cmp, jobs_in, with_item, IsSet, SameJobs}

@@ -1,6 +1,6 @@
 -- Where a job goes among those that are queued.
-use Rattle.std.proofs.Common.{◌≡◌, ◌≢◌, ℕ, suc, ◌+◌, ◌<◌, Bool, true, false, List, [], ◌∷◌, ◌++◌, length, reverse, take, drop, get_or, if◌then◌else◌, refl, sym, ap, ◌∙◌, subst, add-one, drop-cons, append_assoc}
-use Rattle.std.proofs.Common.{Ordering, Less, Equal, Greater, is_lt}
+use Rattle.std.proofs.Common.{◌≡◌, ℕ, ◌+◌, ◌<◌, Bool, true, false, List, [], ◌∷◌, ◌++◌, length, reverse, take, drop, get_or, if◌then◌else◌, refl, sym, ap, ◌∙◌, subst, add-one, drop-cons, append_assoc}
+use Rattle.std.proofs.Common.{Less, Greater, is_lt}
 use Rattle.std.specs.Prelude.{insert}
 use Rattle.std.proofs.lemmas.List.{reverse-append, take_more, take-append-drop}
 use Rattle.gpoly.proofs.Lists.{reverse-cons, Each-reverse, Each-reversed}
@@ -8,10 +8,9 @@ use Rattle.monomials.specs.Orders.{RowOrder}
 use Rattle.monomials.specs.Polynomials.{Each}
 use Rattle.monomials.proofs.Keys.{Each-append, Each-weaker}
 use Rattle.word_model.specs.Jobs.{same_job, is_queued}
-use Rattle.word_model.specs.declared.records.Job.{Job}
 use Rattle.pair_strategy.specs.Queues.{keyed_cmp, jobs_in, with_item, IsRising}
 use Rattle.pair_strategy.specs.declared.keys.Keyed.{Keyed}
-use Rattle.pair_strategy.proofs.Ordered.{keyed_total, keys_differ, is_less, is_greater, not_less, below, one_way}
+use Rattle.pair_strategy.proofs.Ordered.{keyed_total, keys_differ, is_less, is_greater, not_less, below}
 use Rattle.pair_strategy.proofs.Members.{neither}
 
 -- ---- lists

@@ -3,6 +3,7 @@ use Rattle.std.proofs.Common.{◌≡◌, ℕ, List, [], ◌∷◌, ◌++◌, cod
 use Rattle.std.specs.Fmt.{digits}
 use Rattle.monomials.specs.Polynomials.{Polynomial}
 use Rattle.monomials.specs.Blocks.{dp_rows}
+use Rattle.monomials.specs.declared.order.Block.TheVariants.{DegRev}
 use Rattle.word_model.specs.Words.{Algebra, normal_form, normal_form_within, word_value}
 use Rattle.prime_field.specs.Modular.{inverse}
 use Rattle.word_model.specs.Products.{product}
@@ -10,6 +11,8 @@ use Rattle.word_model.specs.Reduction.{steps_within, reduce, reduce_tail}
 use Rattle.word_model.specs.Jobs.{start_of, chain_witness}
 use Rattle.word_model.specs.Machine.{step, run_within, machine}
 use Rattle.word_model.specs.Finished.{finished, kept}
+use Rattle.word_model.specs.Texts.{rows_text}
+use Rattle.word_model.specs.RingTexts.{ring_text}
 use Rattle.word_model.specs.Scripts.{line_feed, two_variables, read_script}
 use Rattle.word_model.specs.Conditions.{Fault, relations_fault}
 use Rattle.word_model.specs.Conditions.Fault.{Coefficient, Profile, NonDegeneracy}
@@ -125,3 +128,15 @@ too_high = refl
 weyl_passes : relations_fault (two_variables 7 1 1) ≡ None
 unfolding relations_fault
 weyl_passes = refl
+
+-- the ring with d x = x d + 1 modulo 7
+weyl_ring : ring_text (two_variables 7 1 1) (codes "x" ∷ codes "d" ∷ []) (DegRev 2 ∷ [])
+    ≡ line (codes "// characteristic 7") ++ (line (codes "// variables x,d") ++ (line (codes "// order (dp(2))") ++ line (codes "// d*x=x*d+1")))
+unfolding digits
+weyl_ring = refl
+
+-- a row of d and -x
+weyl_row : rows_text 7 (codes "x" ∷ codes "d" ∷ []) (codes "_") ((((1, 0 ∷ 1 ∷ []) ∷ []) ∷ ((6, 1 ∷ 0 ∷ []) ∷ []) ∷ []) ∷ [])
+    ≡ line (codes "_[1]=[d,-x]")
+unfolding digits
+weyl_row = refl

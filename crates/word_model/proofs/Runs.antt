@@ -10,6 +10,7 @@ use Rattle.word_model.specs.Reduction.{steps_within, reduce, reduce_tail}
 use Rattle.word_model.specs.Jobs.{start_of, chain_witness}
 use Rattle.word_model.specs.Finished.{finished, kept}
 use Rattle.word_model.specs.Machine.{step, run_within, machine}
+use Rattle.word_model.specs.Cofactors.{basis_rows, cofactor_rows, row_value}
 use Rattle.word_model.specs.declared.records.Job.TheVariants.{Seed, Pair, Right}
 use Rattle.word_model.specs.declared.records.TraceStep.{TraceStep}
 use Rattle.word_model.specs.declared.records.Mode.TheVariants.{Left, TwoSided}
@@ -170,3 +171,25 @@ tails_are_reduced : finished lexicographic (machine lexicographic less_next Left
     })
 unfolding finished kept reduce_tail machine run_within step chain_witness start_of reduce steps_within product normal_form normal_form_within inverse less_by
 tails_are_reduced = refl
+
+-- ---- rows of cofactors
+
+-- of the Weyl algebra's run: d is d times x d less x times d^2
+weyl_rows : cofactor_rows (two_variables 7 1 1) weyl_generators (machine (two_variables 7 1 1) weyl_generators Left 5)
+    (record { list = ((1, 0 ∷ 1 ∷ []) ∷ []) ∷ []; origin = 3 ∷ []; tails = [] ∷ [] })
+    ≡ Some ((((1, 0 ∷ 1 ∷ []) ∷ []) ∷ ((6, 1 ∷ 0 ∷ []) ∷ []) ∷ []) ∷ [])
+unfolding cofactor_rows basis_rows machine run_within step chain_witness start_of reduce steps_within product normal_form normal_form_within inverse
+weyl_rows = refl
+
+-- the value of that row is d
+weyl_row_value : row_value (two_variables 7 1 1) (((1, 0 ∷ 1 ∷ []) ∷ []) ∷ ((6, 1 ∷ 0 ∷ []) ∷ []) ∷ []) weyl_generators
+    ≡ (1, 0 ∷ 1 ∷ []) ∷ []
+unfolding product normal_form normal_form_within
+weyl_row_value = refl
+
+-- of the lexicographic run, whose last element is x - y plus y - z plus z - 1
+lexicographic_rows : cofactor_rows lexicographic less_next (machine lexicographic less_next Left 100)
+    (record { list = []; origin = 3 ∷ []; tails = (less_by 2 ∷ less_by 1 ∷ []) ∷ [] })
+    ≡ Some ((((1, 0 ∷ 0 ∷ 0 ∷ []) ∷ []) ∷ ((1, 0 ∷ 0 ∷ 0 ∷ []) ∷ []) ∷ ((1, 0 ∷ 0 ∷ 0 ∷ []) ∷ []) ∷ []) ∷ [])
+unfolding cofactor_rows basis_rows machine run_within step chain_witness start_of reduce steps_within product normal_form normal_form_within inverse less_by
+lexicographic_rows = refl

@@ -1,6 +1,7 @@
 pub mod Words
 pub mod Products
 pub mod Texts
+pub mod RingTexts
 pub mod Scripts
 pub mod Answers
 pub mod Conditions
@@ -8,3 +9,4 @@ pub mod Reduction
 pub mod Jobs
 pub mod Machine
 pub mod Finished
+pub mod Cofactors

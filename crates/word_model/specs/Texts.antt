@@ -1,5 +1,5 @@
--- The printed texts of polynomials.
-use Rattle.std.specs.Prelude.{ℕ, zero, suc, ◌-◌, ◌==◌, List, [], ◌∷◌, ◌++◌, codes, if◌then◌else◌, nat_le}
+-- The printed texts of polynomials, ideals and rows.
+use Rattle.std.specs.Prelude.{ℕ, zero, suc, ◌-◌, ◌==◌, List, [], ◌∷◌, ◌++◌, codes, map, if◌then◌else◌, nat_le}
 use Rattle.std.specs.List.{join_with_byte}
 use Rattle.std.specs.Fmt.{decimal, signed_decimal}
 use Rattle.prime_field.specs.Modular.{symmetric}
@@ -62,3 +62,21 @@ generator_lines p names label k (f ∷ list) = generator_line p names label k f 
 abbrev pub ideal_text : ℕ → List (List ℕ) → List ℕ → List Polynomial → List ℕ
 ideal_text p names label [] = generator_line p names label 1 []
 ideal_text p names label (f ∷ list) = generator_lines p names label 1 (f ∷ list)
+
+-- a row: its polynomials with `,` between them
+abbrev pub row_text : ℕ → List (List ℕ) → List Polynomial → List ℕ
+row_text p names row = join_with_byte 44 (map (polynomial_text p names) row)
+
+-- a row's line: the label with its number, and the row
+abbrev pub row_line : ℕ → List (List ℕ) → List ℕ → ℕ → List Polynomial → List ℕ
+row_line p names label k row = label ++ (codes "[" ++ (decimal k ++ (codes "]=[" ++ (row_text p names row ++ codes "]\n"))))
+
+-- the lines of rows whose numbers count from k
+abbrev pub row_lines : ℕ → List (List ℕ) → List ℕ → ℕ → List (List Polynomial) → List ℕ
+row_lines p names label k [] = []
+row_lines p names label k (row ∷ rows) = row_line p names label k row ++ row_lines p names label (suc k) rows
+
+-- rows: a line for each, and one with 0 where there is none
+abbrev pub rows_text : ℕ → List (List ℕ) → List ℕ → List (List Polynomial) → List ℕ
+rows_text p names label [] = generator_line p names label 1 []
+rows_text p names label (row ∷ rows) = row_lines p names label 1 (row ∷ rows)

@@ -46,6 +46,44 @@ impl Model for Finished {
     ghost view = { λ f. record { list = f.list.items; origin = f.origin.items; tails = f.tails.items } };
 }
 
+/// A row of cofactors: a polynomial for each generator. It stands for the sum of each times its
+/// generator.
+#[derive(Debug, Drop)]
+pub struct Row {
+    pub entries: Vec<GPoly>,
+}
+
+impl Model for Row {
+    ghost use Rattle.word_model.specs.Cofactors.{Row as Cofactors};
+
+    ghost Value = { Cofactors };
+
+    ghost view = { λ r. r.entries.items };
+}
+
+impl Row {
+    /// The same row, in memory of its own.
+    pub fn copy(&self, alloc: Global) -> Result<Row, AllocError>
+        ensures { IfOk result (λ r. r ≡ self.now) }
+    {
+        let mut entries = Vec::with_capacity(alloc, self.entries.len())?;
+        for entry in &self.entries {
+            entries.push(entry.copy(alloc)?)?;
+        }
+        Ok(Row { entries })
+    }
+}
+
+/// The start of a job, reduced ahead by the first `prefix` elements of a basis: the steps, and what
+/// they left.
+#[derive(Debug, Drop)]
+pub struct Spec {
+    pub job: Job,
+    pub prefix: u32,
+    pub trace: Trace,
+    pub rest: GPoly,
+}
+
 /// A list of polynomials that is read by numbers: a basis, or a part or a view of one. Reading
 /// takes no memory.
 pub trait Elements {
@@ -96,3 +134,6 @@ pub trait Engine {
         requires some { 1 ≤ budget }
         ensures { IfOk result (λ j. j ≡ machine alg.now gens.now mode budget) };
 }
+
+#[cfg(test)]
+mod tests;

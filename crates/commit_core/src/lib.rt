@@ -7,6 +7,7 @@ use run_records::{Engine, Journal, Mode};
 use state::State;
 use std::alloc::{AllocError, Global};
 
+mod lead;
 mod queue;
 mod state;
 #[cfg(test)]

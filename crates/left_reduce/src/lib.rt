@@ -10,6 +10,11 @@ use monomials::Expo;
 use run_records::Elements;
 
 pub mod plain;
+mod reducing;
+mod start;
+
+pub use reducing::{Ended, Reduced, normal_form, reduce_from, reduce_tail};
+pub use start::start_of;
 
 /// The number of the first element whose leading monomial divides `mono`, counted from 1. The zero
 /// polynomial divides nothing. Takes no memory.

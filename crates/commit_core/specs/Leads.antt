@@ -1,0 +1,61 @@
+-- A lead: a run of the machine that one thread goes on with, a step at a time.
+use Rattle.std.specs.Prelude.{◌≡◌, ℕ, ◌+◌, ◌++◌, ◌∷◌, [], List, length, Option, Some, None, Ok, Err}
+use Rattle.std.specs.declared.alloc.AllocError.{AllocError}
+use Rattle.std.specs.declared.result.Result.{Result}
+use Rattle.monomials.specs.Polynomials.{Polynomial}
+use Rattle.word_model.specs.Words.{Algebra}
+use Rattle.word_model.specs.Machine.{State, Turn, On, Over, step}
+use Rattle.word_model.specs.declared.records.Job.{Job}
+use Rattle.word_model.specs.declared.records.Mode.{Mode}
+use Rattle.word_model.specs.declared.records.Entry.{Entry}
+use Rattle.word_model.specs.declared.records.Entry.TheVariants.{Skipped, Zero, New}
+use Rattle.word_model.specs.declared.records.Outcome.{Outcome}
+use Rattle.pair_strategy.specs.Queues.{SameJobs}
+use Rattle.left_reduce.specs.Reductions.{start_count}
+use Rattle.commit_core.specs.declared.lead.Committed.{Committed}
+use Rattle.commit_core.specs.declared.lead.Committed.TheVariants.{Added, Over as Ended}
+
+-- what a lead runs over, what it did, the jobs that wait, in rising order of their keys, and its outcome where it is over
+pub record Run : Type 0 where
+  pub algebra : Algebra
+  pub generators : List Polynomial
+  pub mode : Mode
+  pub budget : ℕ
+  pub entries : List Entry
+  pub basis : List Polynomial
+  pub jobs : List Job
+  pub outcome : Option Outcome
+
+-- the run is at this state of the machine: its entries, its basis, and the same jobs, in whatever order the state has them
+pub record IsAt (run : Run) (s : State) : Type 0 where
+  pub entries : s.entries ≡ run.entries
+  pub basis : s.basis ≡ run.basis
+  pub jobs : SameJobs s.queue run.jobs
+
+-- one step of the machine that the run is of
+abbrev pub run_step : Run → State → Turn
+run_step run s = step run.algebra run.generators run.mode run.budget s
+
+-- the two are runs of the same machine
+pub record IsSameRun (old new : Run) : Type 0 where
+  pub algebra : new.algebra ≡ old.algebra
+  pub generators : new.generators ≡ old.generators
+  pub mode : new.mode ≡ old.mode
+  pub budget : new.budget ≡ old.budget
+
+-- What a commit does. Where it adds an entry, it is one step of the machine: whatever state the run is at, the step from
+-- there leads to one that the new run is at. Where it ends, the machine ends there, and only the outcome is noted.
+-- Where memory is wanting, nothing is changed.
+abbrev pub IsCommit : Run → Run → Result Committed AllocError → Type 0
+IsCommit old new (Ok Added) =
+    IsSameRun old new × (new.outcome ≡ old.outcome)
+    × ((s : State) → IsAt old s → (s' : State) × (run_step old s ≡ On s') × IsAt new s')
+IsCommit old new (Ok (Ended outcome)) =
+    ((s : State) → IsAt old s → run_step old s ≡ Over outcome) × (new ≡ record old { outcome = Some outcome })
+IsCommit old new (Err e) = new ≡ old
+
+-- how many products make an entry: those of its start, and one for each step
+abbrev pub entry_count : Entry → ℕ
+entry_count (Skipped job by) = 0
+entry_count (Zero job trace) = start_count job + length trace
+entry_count (New job trace scale) = start_count job + length trace

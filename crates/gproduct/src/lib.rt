@@ -1,0 +1,15 @@
+//! Products in a G-algebra, by closed forms and by a table of products of small powers that threads
+//! may share.
+#![tactic(auto)]
+
+mod place;
+mod products;
+mod seat;
+mod steps;
+mod table;
+
+pub use place::{Place, value_of};
+pub use products::{right_times, term_times, times};
+pub use seat::{Learned, TableSeat};
+pub use steps::Steps;
+pub use table::Table;

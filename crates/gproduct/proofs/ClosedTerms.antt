@@ -1,14 +1,15 @@
 -- The terms of closed forms: their exponents, and what they are in an algebra.
-use Rattle.std.proofs.Common.{◌≡◌, ℕ, zero, suc, ◌+◌, ◌-◌, ◌*◌, ◌%◌, ◌^◌, ◌<◌, ◌≤◌, min, List, [], ◌∷◌, ◌++◌, map, replicate, refl, sym, ap, ◌∙◌, subst, arith}
+use Rattle.std.proofs.Common.{◌≡◌, ℕ, zero, suc, ◌+◌, ◌-◌, ◌*◌, ◌%◌, ◌^◌, ◌<◌, ◌≤◌, min, List, [], ◌∷◌, ◌++◌, map, replicate, refl, sym, ap, ◌∙◌, subst, arith, mod-eq_of_lt}
 use Rattle.monomials.specs.Monomials.{degree}
 use Rattle.monomials.specs.Polynomials.{Each, HasNumbers, HasVars, cons_nonzero}
 use Rattle.monomials.proofs.Insertion.{cons_nonzero_cases}
 use Rattle.monomials.proofs.Keys.{Each-append, Each-weaker}
-use Rattle.word_model.specs.Words.{monomial_of}
+use Rattle.word_model.specs.Words.{Algebra, monomial_of}
 use Rattle.word_model.proofs.Letters.{Each-map, length-counts_from}
 use Rattle.closed_forms.specs.declared.PairKind.{PairKind}
 use Rattle.closed_forms.specs.declared.PairKind.TheVariants.{Commuting, Quasi, Weyl, QWeyl, LeftLinear, RightLinear}
-use Rattle.closed_forms.specs.Forms.{Powers, Terms, IsNumber, sum_of_terms, weyl_number, binomial_number, closed_form}
+use Rattle.closed_forms.specs.declared.Term2.{Term2}
+use Rattle.closed_forms.specs.Forms.{pairs_of as powers_of, Powers, Terms, IsNumber, sum_of_terms, weyl_number, binomial_number, closed_form, in_algebra}
 use Rattle.gproduct.proofs.TwoPowers.{degree-powers}
 
 -- ---- exponents
@@ -54,3 +55,14 @@ module _ (n i j : ℕ) where
   small_in low ij high a b reach f h =
       Each-map _ in_variables f
       (Each-weaker _ _ (λ t up_to. omega (arith, degree-powers i j t.1.0 t.1.1 low ij n high, up_to.0, up_to.1)) f h)
+
+-- terms of the program whose exponents are up to b and a
+pub small_powers : (a b : ℕ) → a + b ≤ 4095 → (ts : List Term2) → Each (IsUpTo a b) (powers_of ts) → Each (λ t. t.x + t.y ≤ 4095) ts
+small_powers a b reach [] h = tt
+small_powers a b reach (t ∷ ts) h = (omega (arith, h.0.0, h.0.1), small_powers a b reach ts h.1)
+
+-- one term, in an algebra
+pub in_algebra-one : (A : Algebra) (i j x y c : ℕ) → c < A.p
+    → in_algebra A i j (cons_nonzero c (x, y) []) ≡ cons_nonzero c (monomial_of A.order.vars (replicate x i ++ replicate y j)) []
+in_algebra-one A i j x y zero less = refl
+in_algebra-one A i j x y (suc c) less = ap (λ r. cons_nonzero r (monomial_of A.order.vars (replicate x i ++ replicate y j)) []) (mod-eq_of_lt less)

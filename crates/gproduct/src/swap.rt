@@ -63,6 +63,7 @@ impl Swap {
         requires { IsSwap alg.now self }
         ensures { IfOk result (λ r. r ≡ normal_form alg.now (swap_word self)) }
     {
+        let _n = alg.n();
         let high = self.power(alloc, alg, 0, self.a)?;
         let low = self.power(alloc, alg, self.b, 0)?;
         match alg.plain_product(alloc, &high, &low) {

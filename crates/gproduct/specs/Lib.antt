@@ -1,3 +1,4 @@
 pub mod Places
+pub mod Swaps
 pub mod Seats
 pub mod Counting

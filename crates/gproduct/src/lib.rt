@@ -2,10 +2,13 @@
 //! may share.
 #![tactic(auto)]
 
+mod kinds;
 mod place;
+mod powers;
 mod products;
 mod seat;
 mod steps;
+mod swap;
 mod table;
 
 pub use place::{Place, value_of};

@@ -1,0 +1,4 @@
+pub mod TwoPowers
+pub mod PlainValue
+pub mod ClosedTerms
+pub mod Known

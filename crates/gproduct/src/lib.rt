@@ -3,6 +3,7 @@
 #![tactic(auto)]
 
 mod place;
+mod powers;
 mod products;
 mod seat;
 mod steps;

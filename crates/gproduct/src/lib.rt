@@ -2,6 +2,9 @@
 //! may share.
 #![tactic(auto)]
 
+mod front;
+mod multiplying;
+mod pending;
 mod place;
 mod powers;
 mod products;

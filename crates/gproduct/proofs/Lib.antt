@@ -1,0 +1,3 @@
+mod SortedWords
+mod Stacks
+mod Swaps

@@ -1,3 +1,4 @@
 mod SortedWords
 mod Stacks
 mod Swaps
+mod MultipliedOut

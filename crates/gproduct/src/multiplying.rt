@@ -3,17 +3,17 @@
 ghost use Rattle.std.specs.Prelude.{◌≡◌, ℕ, ◌+◌, ◌-◌, ◌*◌, ◌%◌, ◌<◌, ◌≤◌, ◌∷◌, ◌++◌, [], IfOk, OnOk, length, map};
 ghost use Rattle.monomials.specs.Monomials.{degree};
 ghost use Rattle.monomials.specs.Orders.{order_cmp};
-ghost use Rattle.monomials.specs.Polynomials.{Each, HasNumbers, HasVars, from_terms, poly_add, poly_scale};
+ghost use Rattle.monomials.specs.Polynomials.{HasNumbers, IsPolynomial, from_terms};
 ghost use Rattle.gpoly.specs.Terms.{pairs_of};
-ghost use Rattle.word_model.specs.Words.{normal_form, sorted_word};
-ghost use Rattle.gproduct.specs.Factors.{HaveVars, IsCrossing, IsSwap, ProductSum, factor_count, products_in, stacked_word};
+ghost use Rattle.word_model.specs.Words.{word_value};
+ghost use Rattle.gproduct.specs.Factors.{AreTerms, IsCrossing, IsReady, IsSwap, ProductSum, factor_count, products_in, words_of};
 ghost use Rattle.gproduct.specs.Seats.{Keeps};
 
 use crate::front::{Crossing, Front, join_front, power};
 use crate::pending::Pending;
 use crate::powers::power_terms;
 use crate::seat::TableSeat;
-use gpoly::Term;
+use gpoly::{GPoly, Term};
 use monomials::Expo;
 use prime_field::Field;
 use std::alloc::{AllocError, Global};
@@ -79,20 +79,30 @@ fn push_swapped(
     push_each(pending, field, coef, &left, terms, &right, tail)
 }
 
-// Multiplies all pending products out, and adds their terms to `sums`, in any order.
-fn multiply_out(
+// Multiplies all products out. Equal monomials are not added up.
+fn sorted_terms(
     alloc: Global,
     seat: &mut TableSeat,
     pending: &mut Pending,
-    sums: &mut Vec<Term>,
-) -> Result<(), AllocError>
+) -> Result<Vec<Term>, AllocError>
+    requires counted { factor_count pending.old.open.items ≡ length pending.old.factors.items }
+    requires ready { IsReady seat.old.algebra.p seat.old.algebra.order.vars
+        (products_in pending.old.open.items pending.old.factors.items) }
+    ensures counted { IfOk result (λ r. factor_count pending.new.open.items ≡ length pending.new.factors.items) }
+    ensures empty { IfOk result (λ r. pending.new.open.items ≡ []) }
+    ensures value { IfOk result (λ r. from_terms (order_cmp seat.old.algebra.order.rows) seat.old.algebra.p (pairs_of r.items)
+        ≡ word_value seat.old.algebra (words_of (products_in pending.old.open.items pending.old.factors.items))) }
+    ensures terms { IfOk result (λ r. AreTerms seat.old.algebra.p seat.old.algebra.order.vars (pairs_of r.items)) }
+    ensures algebra { seat.new.algebra ≡ seat.old.algebra }
+    ensures kept { Keeps seat.old seat.new }
 {
     let n = seat.algebra().n();
     let mut factors = Vec::new(alloc);
     let mut terms = Vec::new(alloc);
+    let mut sorted = Vec::new(alloc);
     while let Some(coef) = pending.pop(&mut factors)? {
         match join_front(n, &mut factors) {
-            Front::Sorted(mono) => sums.push(Term { coef, mono })?,
+            Front::Sorted(mono) => sorted.push(Term { coef, mono })?,
             Front::Crossed(crossing) => push_swapped(
                 alloc,
                 seat,
@@ -104,5 +114,27 @@ fn multiply_out(
             )?,
         }
     }
-    Ok(())
+    Ok(sorted)
+}
+
+/// Multiplies all products out: answers their sum, and leaves none.
+pub fn multiply_out(
+    alloc: Global,
+    seat: &mut TableSeat,
+    pending: &mut Pending,
+) -> Result<GPoly, AllocError>
+    requires counted { factor_count pending.old.open.items ≡ length pending.old.factors.items }
+    requires ready { IsReady seat.old.algebra.p seat.old.algebra.order.vars
+        (products_in pending.old.open.items pending.old.factors.items) }
+    ensures counted { IfOk result (λ r. factor_count pending.new.open.items ≡ length pending.new.factors.items) }
+    ensures empty { IfOk result (λ r. pending.new.open.items ≡ []) }
+    ensures value { IfOk result (λ r. r ≡ word_value seat.old.algebra
+        (words_of (products_in pending.old.open.items pending.old.factors.items))) }
+    ensures sorted { IfOk result (λ r. IsPolynomial seat.old.algebra.p seat.old.algebra.order r) }
+    ensures algebra { seat.new.algebra ≡ seat.old.algebra }
+    ensures kept { Keeps seat.old seat.new }
+{
+    let sorted = sorted_terms(alloc, seat, pending)?;
+    let algebra = seat.algebra();
+    GPoly::from_terms(alloc, algebra.field(), algebra.order(), &sorted)
 }

@@ -38,7 +38,7 @@ impl Pending {
     pub fn pop(&mut self, taken: &mut Vec<Expo>) -> Result<Option<u32>, AllocError>
         requires { factor_count self.old.open.items ≡ length self.old.factors.items }
         ensures counted { OnOk result (factor_count self.new.open.items ≡ length self.new.factors.items) }
-        ensures product { IfOk result (λ r. MatchOption r (self.old.open.items ≡ [])
+        ensures product { IfOk result (λ r. MatchOption r ((self.old.open.items ≡ []) × (self.new.open.items ≡ []))
             (λ coef. products_in self.old.open.items self.old.factors.items
             ≡ products_in self.new.open.items self.new.factors.items ++ (coef, taken.new.items) ∷ [])) }
     {

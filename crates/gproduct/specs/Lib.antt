@@ -2,3 +2,4 @@ pub mod Places
 pub mod Swaps
 pub mod Seats
 pub mod Counting
+pub mod Factors

@@ -3,6 +3,9 @@
 #![tactic(auto)]
 
 mod kinds;
+mod front;
+mod multiplying;
+mod pending;
 mod place;
 mod powers;
 mod products;

@@ -1,0 +1,13 @@
+use Rattle.std.proofs.Common.{◌≡◌, ◌*◌, ◌%◌, ◌++◌, ◌∷◌, [], length, map, drop}
+use Rattle.gpoly.specs.Terms.{pairs_of}
+use Rattle.gproduct.specs.Factors.{factor_count, products_in}
+use Rattle.gproduct.proofs.multiplying.push_each.Given as goal
+
+abbrev pub invariant-loop-term : goal.invariant-loop-term
+invariant-loop-term l = record {
+  counted : factor_count l.pending.open.items ≡ length l.pending.factors.items;
+  products : products_in l.pending.open.items l.pending.factors.items
+      ++ map (λ t. ((l.coef * t.0) % l.field, l.tail ++ (l.right ∷ t.1 ∷ l.left ∷ []))) (pairs_of (drop l.term-index l.terms))
+      ≡ products_in l.initial.pending.open.items l.initial.pending.factors.items
+      ++ map (λ t. ((l.coef * t.0) % l.field, l.tail ++ (l.right ∷ t.1 ∷ l.left ∷ []))) (pairs_of l.terms);
+}

@@ -1,7 +1,7 @@
 use Rattle.std.proofs.Common.{length, sym, ap, ◌∙◌, subst}
 use Rattle.monomials.specs.Polynomials.{Each, HasVars}
 use Rattle.gpoly.proofs.TermLists.{vars_at}
-use Rattle.left_reduce.proofs.plain.greatest_target.Goals as goal
+use Rattle.left_reduce.proofs.targets.greatest_target.Goals as goal
 
 pub first_divisor-requires-clause-vars : goal.first_divisor-requires-clause-vars
 first_divisor-requires-clause-vars g c =

@@ -1,7 +1,7 @@
 use Rattle.std.proofs.Common.{◌≡◌, drop}
 use Rattle.gpoly.specs.Terms.{pairs_of}
 use Rattle.word_model.specs.Reduction.{greatest_target}
-use Rattle.left_reduce.proofs.plain.greatest_target.Given as goal
+use Rattle.left_reduce.proofs.targets.greatest_target.Given as goal
 
 abbrev pub invariant-loop-term : goal.invariant-loop-term
 invariant-loop-term g l =

@@ -66,6 +66,7 @@ fn s_polynomial<L: Ledger>(
     ensures kept { Keeps seat.old seat.new }
 {
     let alg = seat.algebra();
+    let _n = alg.n();
     let field = alg.field();
     let (f_lead, g_lead) = (lead(f), lead(g));
     let reached = f_lead.mono.lcm(&g_lead.mono);

@@ -76,4 +76,3 @@ fn s_polynomial<L: Ledger>(
     let cancelling = second.scale(alloc, field, k)?;
     Ok(first.sub(alloc, field, alg.order(), &cancelling)?)
 }
-

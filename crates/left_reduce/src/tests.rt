@@ -216,11 +216,30 @@ fn goes_on<L: Ledger>(
     reduce_from(alloc, seat, basis, made.rest, made.trace, steps)
 }
 
+// What is reduced.
+#[derive(Clone, Copy)]
+enum Kind {
+    Lead,
+    GoesOn,
+    Normal,
+    Tail,
+}
+
+// The kind that a row names.
+fn kind_of(word: &str) -> Kind {
+    match word {
+        "lead" => Kind::Lead,
+        "on" => Kind::GoesOn,
+        "normal" => Kind::Normal,
+        _ => Kind::Tail,
+    }
+}
+
 // A reduction of this kind.
 fn reduction<L: Ledger>(
     alloc: Global,
     seat: &mut TableSeat,
-    kind: &str,
+    kind: Kind,
     basis: &Vec<GPoly>,
     h: GPoly,
     steps: &mut Steps<L>,
@@ -230,16 +249,16 @@ fn reduction<L: Ledger>(
     requires h_sorted { IsPolynomial seat.old.algebra.p seat.old.algebra.order h }
 {
     let text = match kind {
-        "lead" => {
+        Kind::Lead => {
             let reduced = reduce_from(alloc, seat, basis, h, Trace::new(alloc), steps)?;
             reduced_text(alloc, &reduced)?
         }
-        "on" => reduced_text(alloc, &goes_on(alloc, seat, basis, h, steps)?)?,
-        "normal" => {
+        Kind::GoesOn => reduced_text(alloc, &goes_on(alloc, seat, basis, h, steps)?)?,
+        Kind::Normal => {
             let (rest, trace) = normal_form(alloc, seat, basis, &h, steps)?;
             told(alloc, &trace, &rest)?
         }
-        _ => {
+        Kind::Tail => {
             let (rest, trace) = reduce_tail(alloc, seat, basis, &h, steps)?;
             told(alloc, &trace, &rest)?
         }
@@ -251,22 +270,22 @@ fn reduction<L: Ledger>(
 fn counted_reduction<L: Ledger>(
     alloc: Global,
     alg: &Algebra,
-    kind: &str,
-    elements: &str,
-    h: &str,
+    kind: Kind,
+    basis: &Vec<GPoly>,
+    h: GPoly,
     blank: Blank,
 ) -> Result<String, Fail>
-    requires vars { alg.now.order.vars ≡ 3 }
+    requires count { length basis.now.items ≡ 3 }
+    requires sorted { Each (IsPolynomial alg.now.p alg.now.order) basis.now.items }
+    requires h_sorted { IsPolynomial alg.now.p alg.now.order h }
     requires name { blank.name ≡ L.name }
     requires parts { blank.parts ≡ L.parts }
     requires some { 0 < blank.parts }
 {
-    let basis = three(alloc, alg, elements)?;
-    let h = poly(alloc, alg.field(), alg.order(), h)?;
     let table = Table::new(alloc, alg)?;
     let mut seat = table.seat(alloc)?;
     let mut steps = Steps::<L>::start(blank);
-    reduction(alloc, &mut seat, kind, &basis, h, &mut steps)
+    reduction(alloc, &mut seat, kind, basis, h, &mut steps)
 }
 
 // A row's reduction.
@@ -279,7 +298,9 @@ fn row_text(
 ) -> Result<String, Fail>
     requires { alg.now.order.vars ≡ 3 }
 {
-    counted_reduction::<Brand>(alloc, alg, kind, elements, h, Blank::new(1))
+    let basis = three(alloc, alg, elements)?;
+    let h = poly(alloc, alg.field(), alg.order(), h)?;
+    counted_reduction::<Brand>(alloc, alg, kind_of(kind), &basis, h, Blank::new(1))
 }
 
 // What is reduced: the leading term, also after a reduction by the first element, all terms or the tail; three elements;

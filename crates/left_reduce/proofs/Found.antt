@@ -3,6 +3,9 @@ use Rattle.std.proofs.Common.{◌≡◌, ℕ, ◌<◌, List, [], ◌∷◌, leng
 use Rattle.monomials.specs.Monomials.{Monomial}
 use Rattle.monomials.specs.Polynomials.{Polynomial, HasVars, HasNumbers}
 use Rattle.word_model.specs.Reduction.{first_divisor, Target, target_at, target_or, leading_target, greatest_target, tail_target}
+use Rattle.left_reduce.specs.Steps.{target_by}
+use Rattle.left_reduce.specs.declared.targets.Aim.{Aim}
+use Rattle.left_reduce.specs.declared.targets.Aim.TheVariants.{Leading, Greatest, Tail}
 
 -- a term of a polynomial with its first divisor
 pub record IsFound (p : ℕ) (n : ℕ) (G : List Polynomial) (t : ℕ × Monomial) (i : ℕ) : Type 0 where
@@ -19,11 +22,11 @@ module _ (p : ℕ) (n : ℕ) (G : List Polynomial) where
       let P : Target → Type 0 = λ target. IsFound p n G target.0 target.1 in
       subst P same (record { vars = vars; in_range = small; divisor = is })
 
-  pub leading_target-is : (h : Polynomial) (t : ℕ × Monomial) (i : ℕ) → HasVars n h → HasNumbers p h → leading_target G h ≡ Some (t, i) → IsFound p n G t i
+  leading_target-is : (h : Polynomial) (t : ℕ × Monomial) (i : ℕ) → HasVars n h → HasNumbers p h → leading_target G h ≡ Some (t, i) → IsFound p n G t i
   leading_target-is [] t i vars numbers e = cc
   leading_target-is (u ∷ h) t i vars numbers e = found_at u t i (first_divisor G u.1) refl vars.0 numbers.0 e
 
-  pub greatest_target-is : (h : Polynomial) (t : ℕ × Monomial) (i : ℕ) → HasVars n h → HasNumbers p h → greatest_target G h ≡ Some (t, i) → IsFound p n G t i
+  greatest_target-is : (h : Polynomial) (t : ℕ × Monomial) (i : ℕ) → HasVars n h → HasNumbers p h → greatest_target G h ≡ Some (t, i) → IsFound p n G t i
   greatest_target-is [] t i vars numbers e = cc
   greatest_target-is (u ∷ h) t i vars numbers e =
       by (first_divisor G u.1) refl e (greatest_target-is h t i vars.1 numbers.1)
@@ -33,6 +36,12 @@ module _ (p : ℕ) (n : ℕ) (G : List Polynomial) where
       by None is e later = later e
       by (Some j) is e later = found_at u t i (Some j) is vars.0 numbers.0 e
 
-  pub tail_target-is : (h : Polynomial) (t : ℕ × Monomial) (i : ℕ) → HasVars n h → HasNumbers p h → tail_target G h ≡ Some (t, i) → IsFound p n G t i
+  tail_target-is : (h : Polynomial) (t : ℕ × Monomial) (i : ℕ) → HasVars n h → HasNumbers p h → tail_target G h ≡ Some (t, i) → IsFound p n G t i
   tail_target-is [] t i vars numbers e = cc
   tail_target-is (u ∷ h) t i vars numbers e = greatest_target-is h t i vars.1 numbers.1 e
+
+  -- whichever the aim
+  pub target_by-is : (aim : Aim) (h : Polynomial) (t : ℕ × Monomial) (i : ℕ) → HasVars n h → HasNumbers p h → target_by aim G h ≡ Some (t, i) → IsFound p n G t i
+  target_by-is Leading h t i vars numbers e = leading_target-is h t i vars numbers e
+  target_by-is Greatest h t i vars numbers e = greatest_target-is h t i vars numbers e
+  target_by-is Tail h t i vars numbers e = tail_target-is h t i vars numbers e

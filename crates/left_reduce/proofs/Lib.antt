@@ -4,3 +4,4 @@ pub mod Found
 pub mod Made
 pub mod Falling
 pub mod Starts
+pub mod Longer

@@ -1,5 +1,5 @@
 -- Steps and S-polynomials, as the program makes them; and reductions, a step at a time.
-use Rattle.std.proofs.Common.{◌≡◌, ℕ, true, false, List, [], ◌∷◌, ◌++◌, length, Some, if◌then◌else◌, sym, ap, ◌∙◌, append_assoc, append-nil}
+use Rattle.std.proofs.Common.{◌≡◌, ℕ, ◌+◌, true, false, List, [], ◌∷◌, ◌++◌, length, Some, if◌then◌else◌, sym, ap, ◌∙◌, append_assoc, append-nil, length-append, arith}
 use Rattle.monomials.specs.Monomials.{Monomial, minus, lcm}
 use Rattle.monomials.specs.Orders.{order_cmp}
 use Rattle.monomials.specs.Polynomials.{Polynomial, IsPolynomial, poly_scale, poly_sub}
@@ -10,6 +10,7 @@ use Rattle.word_model.specs.Reduction.{element, quotient, multiple, is_within, s
 use Rattle.word_model.specs.Jobs.{s_polynomial}
 use Rattle.word_model.specs.declared.records.TraceStep.{TraceStep}
 use Rattle.word_model.proofs.Reductions.{multiple-scale}
+use Rattle.left_reduce.specs.Steps.{after_steps}
 
 module _ (A : Algebra) (ok : IsAccepted A) where
   -- c times 1 m g, subtracted from h
@@ -61,10 +62,6 @@ module _ (A : Algebra) (ok : IsAccepted A) where
 
 -- ---- reductions, a step at a time
 
--- a reduction with these steps before its own
-abbrev pub after_steps : List TraceStep → Reduced → Reduced
-after_steps steps r = record r { trace = steps ++ r.trace }
-
 module _ (go : Polynomial → Reduced) (whole : Reduced) (steps : List TraceStep) (h : Polynomial) (n : Next)
     (so_far : whole ≡ after_steps steps (go h)) (next : go h ≡ after_step go h n) where
   -- one more step
@@ -80,3 +77,10 @@ module _ (go : Polynomial → Reduced) (whole : Reduced) (steps : List TraceStep
   -- a step that is undefined
   pub at_over : n ≡ Undefined → whole ≡ record { trace = steps; rest = h; over = true }
   at_over is = so_far ∙ ap (after_steps steps) (next ∙ ap (after_step go h) is) ∙ (λ j. record { trace = append-nil steps j; rest = h; over = true })
+
+-- where steps are counted from those given on, their number is that of the reduction's own steps
+pub counted-own : (given steps : List TraceStep) (r s : Reduced) (before now : ℕ) → after_steps given r ≡ s → s.trace ≡ steps
+    → now + length given ≡ before + length steps → now ≡ before + length r.trace
+counted-own given steps r s before now e is count =
+    let whole : length given + length r.trace ≡ length steps = sym (length-append given r.trace) ∙ ap (λ (s : Reduced). length s.trace) e ∙ ap length is in
+    omega (arith, whole, count)

@@ -32,3 +32,7 @@ pub record GoneOn : Type 0 where
 -- the reduction r, behind these steps
 abbrev pub behind_steps : List TraceStep → Reduction → GoneOn
 behind_steps trace r = record { trace = trace ++ r.trace; rest = r.rest; ended = ended_of r }
+
+-- the reduction r, which s goes on from where it ended
+abbrev pub goes_on_with : Reduction → Reduction → Reduction
+goes_on_with r s = record { trace = r.trace ++ s.trace; rest = s.rest; over = s.over }

@@ -9,9 +9,12 @@ use gpoly::GPoly;
 use monomials::Expo;
 use run_records::Elements;
 
-pub mod plain;
+pub mod laws;
+mod multiples;
 mod reducing;
 mod start;
+mod stepping;
+mod targets;
 
 pub use reducing::{Ended, Reduced, normal_form, reduce_from, reduce_tail};
 pub use start::start_of;

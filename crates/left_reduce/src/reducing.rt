@@ -5,7 +5,10 @@ ghost use Rattle.monomials.specs.Polynomials.{Each, IsPolynomial};
 ghost use Rattle.word_model.specs.Reduction.{reduce, normal_form_by, reduce_tail};
 ghost use Rattle.gproduct.specs.Seats.{Keeps};
 ghost use Rattle.left_reduce.specs.Reductions.{behind_steps};
+ghost use Rattle.left_reduce.specs.Steps.{reduction_by};
 
+use crate::stepping::all_steps;
+use crate::targets::Aim;
 use algebra::ProductFault;
 use gpoly::GPoly;
 use gproduct::{Steps, TableSeat};
@@ -62,7 +65,19 @@ pub fn reduce_from<B: Elements, L: Ledger>(
     ensures algebra { seat.new.algebra ≡ seat.old.algebra }
     ensures kept { Keeps seat.old seat.new }
 {
-    Err(AllocError)
+    let done = all_steps(alloc, seat, basis, Aim::Leading, h, trace, steps)?;
+    let ended = if done.over {
+        Ended::DegreeOver
+    } else if done.rest.is_zero() {
+        Ended::Zero
+    } else {
+        Ended::Irreducible
+    };
+    Ok(Reduced {
+        trace: done.trace,
+        rest: done.rest,
+        ended,
+    })
 }
 
 /// The normal form of `h` by the elements, with its steps: the greatest term that some element's
@@ -88,7 +103,7 @@ pub fn normal_form<B: Elements, L: Ledger>(
     ensures algebra { seat.new.algebra ≡ seat.old.algebra }
     ensures kept { Keeps seat.old seat.new }
 {
-    Err(ProductFault::Memory)
+    finished(alloc, seat, basis, Aim::Greatest, h, steps)
 }
 
 /// The reduction of the tail of `h` by the elements, with its steps: as the normal form, but the
@@ -114,5 +129,35 @@ pub fn reduce_tail<B: Elements, L: Ledger>(
     ensures algebra { seat.new.algebra ≡ seat.old.algebra }
     ensures kept { Keeps seat.old seat.new }
 {
-    Err(ProductFault::Memory)
+    finished(alloc, seat, basis, Aim::Tail, h, steps)
+}
+
+// What the reduction of `h` with this aim leaves, and its steps, where none of them is undefined.
+fn finished<B: Elements, L: Ledger>(
+    alloc: Global,
+    seat: &mut TableSeat,
+    basis: &B,
+    aim: Aim,
+    h: &GPoly,
+    steps: &mut Steps<L>,
+) -> Result<(GPoly, Trace), ProductFault>
+    requires few { length (B.elements basis.now) ≤ 4294967295 }
+    requires sorted { Each (IsPolynomial seat.old.algebra.p seat.old.algebra.order) (B.elements basis.now) }
+    requires h_sorted { IsPolynomial seat.old.algebra.p seat.old.algebra.order h.now }
+    ensures value { IfOk result (λ r. reduction_by aim seat.old.algebra (B.elements basis.now) h.now
+        ≡ record { trace = r.1; rest = r.0; over = false }) }
+    ensures over { result ≡ Err ProductFault.DegreeOver →
+        (reduction_by aim seat.old.algebra (B.elements basis.now) h.now).over ≡ true }
+    ensures sorted { IfOk result (λ r. IsPolynomial seat.old.algebra.p seat.old.algebra.order r.0) }
+    ensures counted { OnOk result
+        (steps.new ≡ steps.old + length (reduction_by aim seat.old.algebra (B.elements basis.now) h.now).trace) }
+    ensures algebra { seat.new.algebra ≡ seat.old.algebra }
+    ensures kept { Keeps seat.old seat.new }
+{
+    let start = h.copy(alloc)?;
+    let done = all_steps(alloc, seat, basis, aim, start, Trace::new(alloc), steps)?;
+    if done.over {
+        return Err(ProductFault::DegreeOver);
+    }
+    Ok((done.rest, done.trace))
 }

@@ -1,14 +1,16 @@
 //! The start polynomials of jobs.
 
-ghost use Rattle.std.specs.Prelude.{◌≡◌, ◌+◌, IfOk, OnOk, Err, length, Some, None};
+ghost use Rattle.std.specs.Prelude.{◌≡◌, ◌≢◌, ◌+◌, true, false, IfOk, OnOk, Err, [], length, Some, None};
 ghost use Rattle.monomials.specs.Polynomials.{Each, IsPolynomial};
-ghost use Rattle.word_model.specs.Jobs.{start_of, IsJob, NamesNonzero};
+ghost use Rattle.word_model.specs.Jobs.{start_of, s_polynomial, IsJob, NamesNonzero};
 ghost use Rattle.gproduct.specs.Seats.{Keeps};
 ghost use Rattle.left_reduce.specs.Reductions.{start_count};
+ghost use Rattle.left_reduce.specs.Steps.{both_within};
 
+use crate::multiples::{lead, multiple, quotient};
 use algebra::ProductFault;
 use gpoly::GPoly;
-use gproduct::{Steps, TableSeat};
+use gproduct::{Steps, TableSeat, right_times};
 use run_records::{Elements, Job};
 use std::alloc::Global;
 use std::sync::ledger::Ledger;
@@ -36,5 +38,41 @@ pub fn start_of<B: Elements, L: Ledger>(
     ensures algebra { seat.new.algebra ≡ seat.old.algebra }
     ensures kept { Keeps seat.old seat.new }
 {
-    Err(ProductFault::Memory)
+    match *job {
+        Job::Seed { s } => Ok(gens[s as usize - 1].copy(alloc)?),
+        Job::Pair { i, j } => s_polynomial(alloc, seat, basis.at(i), basis.at(j), steps),
+        Job::Right { i, v } => right_times(alloc, seat, basis.at(i), v, steps),
+    }
+}
+
+// The S-polynomial. `DegreeOver` comes exactly where a product of it has a degree above 4095.
+fn s_polynomial<L: Ledger>(
+    alloc: Global,
+    seat: &mut TableSeat,
+    f: &GPoly,
+    g: &GPoly,
+    steps: &mut Steps<L>,
+) -> Result<GPoly, ProductFault>
+    requires f_sorted { IsPolynomial seat.old.algebra.p seat.old.algebra.order f.now }
+    requires g_sorted { IsPolynomial seat.old.algebra.p seat.old.algebra.order g.now }
+    requires f_nonzero { f.now ≢ [] }
+    requires g_nonzero { g.now ≢ [] }
+    ensures value { IfOk result (λ h. h ≡ s_polynomial seat.old.algebra f.now g.now) }
+    ensures within { OnOk result (both_within f.now g.now ≡ true) }
+    ensures over { result ≡ Err ProductFault.DegreeOver → both_within f.now g.now ≡ false }
+    ensures sorted { IfOk result (λ h. IsPolynomial seat.old.algebra.p seat.old.algebra.order h) }
+    ensures counted { OnOk result (steps.new ≡ steps.old + 2) }
+    ensures algebra { seat.new.algebra ≡ seat.old.algebra }
+    ensures kept { Keeps seat.old seat.new }
+{
+    let alg = seat.algebra();
+    let _n = alg.n();
+    let field = alg.field();
+    let (f_lead, g_lead) = (lead(f), lead(g));
+    let reached = f_lead.mono.lcm(&g_lead.mono);
+    let first = multiple(alloc, seat, &reached.minus(&f_lead.mono), f, steps)?;
+    let second = multiple(alloc, seat, &reached.minus(&g_lead.mono), g, steps)?;
+    let k = quotient(field, lead(&first).coef, lead(&second).coef);
+    let cancelling = second.scale(alloc, field, k)?;
+    Ok(first.sub(alloc, field, alg.order(), &cancelling)?)
 }

@@ -1,20 +1,22 @@
 //! Worked starts and reductions modulo 7, in x, y and z with y x = x y + 1. Tables are texts: a polynomial is its terms,
 //! each a number and the three digits of its exponents, and a step is a term with the number of an element behind it.
 
-ghost use Rattle.std.specs.Prelude.{◌≡◌, ◌≢◌, ◌+◌, ◌≤◌, [], length, IfOk};
+ghost use Rattle.std.specs.Prelude.{◌≡◌, ◌≢◌, ◌+◌, ◌<◌, ◌≤◌, [], length, IfOk};
 ghost use Rattle.monomials.specs.Monomials.{degree};
 ghost use Rattle.monomials.specs.Polynomials.{Each, IsPolynomial};
 ghost use Rattle.word_model.specs.Reduction.{element};
 ghost use Rattle.word_model.specs.Jobs.{IsJob, NamesNonzero};
 
 use super::*;
-use crate::plain::{Reduced, reduce, reduce_tail, start_of};
 use algebra::{Algebra, ProductFault, Relations};
 use gpoly::Term;
+use gproduct::{Steps, Table, TableSeat};
 use monomials::{Block, Order};
 use prime_field::Field;
 use run_records::{Job, Trace};
 use std::alloc::{AllocError, Global};
+use std::marker::Brand;
+use std::sync::ledger::{Blank, Ledger};
 use std::test::Fail;
 
 // The monomial with these digits as exponents.
@@ -112,13 +114,43 @@ fn two(alloc: Global, alg: &Algebra, f: GPoly, g: GPoly) -> Result<Vec<GPoly>, F
     Ok(elements)
 }
 
+// The start of a job at a table of its own, with a counter on the blank.
+fn counted_start<L: Ledger>(
+    alloc: Global,
+    alg: &Algebra,
+    basis: &Vec<GPoly>,
+    job: &Job,
+    blank: Blank,
+) -> Result<GPoly, ProductFault>
+    requires sorted { Each (IsPolynomial alg.now.p alg.now.order) basis.now.items }
+    requires in_range { IsJob (length basis.now.items) (length basis.now.items) alg.now.order.vars job.now }
+    requires nonzero { NamesNonzero basis.now.items basis.now.items job.now }
+    requires name { blank.name ≡ L.name }
+    requires parts { blank.parts ≡ L.parts }
+    requires some { 0 < blank.parts }
+{
+    let table = Table::new(alloc, alg)?;
+    let mut seat = table.seat(alloc)?;
+    let mut steps = Steps::<L>::start(blank);
+    start_of(alloc, &mut seat, basis, basis, job, &mut steps)
+}
+
+// The start of a job.
+fn start(alloc: Global, alg: &Algebra, basis: &Vec<GPoly>, job: &Job) -> Result<GPoly, ProductFault>
+    requires sorted { Each (IsPolynomial alg.now.p alg.now.order) basis.now.items }
+    requires in_range { IsJob (length basis.now.items) (length basis.now.items) alg.now.order.vars job.now }
+    requires nonzero { NamesNonzero basis.now.items basis.now.items job.now }
+{
+    counted_start::<Brand>(alloc, alg, basis, job, Blank::new(1))
+}
+
 // The terms of a start.
 fn start_text(alloc: Global, alg: &Algebra, basis: &Vec<GPoly>, job: &Job) -> Result<String, Fail>
     requires sorted { Each (IsPolynomial alg.now.p alg.now.order) basis.now.items }
     requires in_range { IsJob (length basis.now.items) (length basis.now.items) alg.now.order.vars job.now }
     requires nonzero { NamesNonzero basis.now.items basis.now.items job.now }
 {
-    let start = start_of(alloc, alg, basis, basis, job)?;
+    let start = start(alloc, alg, basis, job)?;
     Ok(poly_text(alloc, &start)?)
 }
 
@@ -153,15 +185,111 @@ fn three(alloc: Global, alg: &Algebra, text: &str) -> Result<Vec<GPoly>, Fail>
     Ok(elements)
 }
 
-// The steps of a reduction and what they leave, with a bar between.
-fn reduced_text(alloc: Global, reduced: &Reduced) -> Result<String, AllocError> {
-    let trace = trace_text(alloc, &reduced.trace)?;
-    let rest = poly_text(alloc, &reduced.rest)?;
-    format!(in alloc; "{trace}|{rest}|{}", reduced.over)
+// Steps and what they leave, with a bar between.
+fn told(alloc: Global, trace: &Trace, rest: &GPoly) -> Result<String, AllocError> {
+    let trace = trace_text(alloc, trace)?;
+    let rest = poly_text(alloc, rest)?;
+    format!(in alloc; "{trace}|{rest}")
 }
 
-// A reduction, or that of a tail.
-fn reduction(
+// The same of a reduction, with its end behind another bar.
+fn reduced_text(alloc: Global, reduced: &Reduced) -> Result<String, AllocError> {
+    let told = told(alloc, &reduced.trace, &reduced.rest)?;
+    format!(in alloc; "{told}|{:?}", reduced.ended)
+}
+
+// A reduction by the first element alone, which goes on by all.
+fn goes_on<L: Ledger>(
+    alloc: Global,
+    seat: &mut TableSeat,
+    basis: &Vec<GPoly>,
+    h: GPoly,
+    steps: &mut Steps<L>,
+) -> Result<Reduced, AllocError>
+    requires count { length basis.now.items ≡ 3 }
+    requires sorted { Each (IsPolynomial seat.old.algebra.p seat.old.algebra.order) basis.now.items }
+    requires h_sorted { IsPolynomial seat.old.algebra.p seat.old.algebra.order h }
+{
+    let mut first = Vec::with_capacity(alloc, 1)?;
+    first.push(basis.at(1).copy(alloc)?)?;
+    let made = reduce_from(alloc, seat, &first, h, Trace::new(alloc), steps)?;
+    reduce_from(alloc, seat, basis, made.rest, made.trace, steps)
+}
+
+// What is reduced.
+#[derive(Clone, Copy)]
+enum Kind {
+    Lead,
+    GoesOn,
+    Normal,
+    Tail,
+}
+
+// The kind that a row names.
+fn kind_of(word: &str) -> Kind {
+    match word {
+        "lead" => Kind::Lead,
+        "on" => Kind::GoesOn,
+        "normal" => Kind::Normal,
+        _ => Kind::Tail,
+    }
+}
+
+// A reduction of this kind.
+fn reduction<L: Ledger>(
+    alloc: Global,
+    seat: &mut TableSeat,
+    kind: Kind,
+    basis: &Vec<GPoly>,
+    h: GPoly,
+    steps: &mut Steps<L>,
+) -> Result<String, Fail>
+    requires count { length basis.now.items ≡ 3 }
+    requires sorted { Each (IsPolynomial seat.old.algebra.p seat.old.algebra.order) basis.now.items }
+    requires h_sorted { IsPolynomial seat.old.algebra.p seat.old.algebra.order h }
+{
+    let text = match kind {
+        Kind::Lead => {
+            let reduced = reduce_from(alloc, seat, basis, h, Trace::new(alloc), steps)?;
+            reduced_text(alloc, &reduced)?
+        }
+        Kind::GoesOn => reduced_text(alloc, &goes_on(alloc, seat, basis, h, steps)?)?,
+        Kind::Normal => {
+            let (rest, trace) = normal_form(alloc, seat, basis, &h, steps)?;
+            told(alloc, &trace, &rest)?
+        }
+        Kind::Tail => {
+            let (rest, trace) = reduce_tail(alloc, seat, basis, &h, steps)?;
+            told(alloc, &trace, &rest)?
+        }
+    };
+    Ok(text)
+}
+
+// The same at a table of its own, with a counter on the blank.
+fn counted_reduction<L: Ledger>(
+    alloc: Global,
+    alg: &Algebra,
+    kind: Kind,
+    basis: &Vec<GPoly>,
+    h: GPoly,
+    blank: Blank,
+) -> Result<String, Fail>
+    requires count { length basis.now.items ≡ 3 }
+    requires sorted { Each (IsPolynomial alg.now.p alg.now.order) basis.now.items }
+    requires h_sorted { IsPolynomial alg.now.p alg.now.order h }
+    requires name { blank.name ≡ L.name }
+    requires parts { blank.parts ≡ L.parts }
+    requires some { 0 < blank.parts }
+{
+    let table = Table::new(alloc, alg)?;
+    let mut seat = table.seat(alloc)?;
+    let mut steps = Steps::<L>::start(blank);
+    reduction(alloc, &mut seat, kind, basis, h, &mut steps)
+}
+
+// A row's reduction.
+fn row_text(
     alloc: Global,
     alg: &Algebra,
     kind: &str,
@@ -172,25 +300,25 @@ fn reduction(
 {
     let basis = three(alloc, alg, elements)?;
     let h = poly(alloc, alg.field(), alg.order(), h)?;
-    let reduced = match kind {
-        "lead" => reduce(alloc, alg, &basis, h)?,
-        _ => reduce_tail(alloc, alg, &basis, &h)?,
-    };
-    Ok(reduced_text(alloc, &reduced)?)
+    counted_reduction::<Brand>(alloc, alg, kind_of(kind), &basis, h, Blank::new(1))
 }
 
-// What is reduced, its leading term or its tail; three elements; a polynomial; and its steps, what they leave, and
-// whether a step was left.
+// What is reduced: the leading term, also after a reduction by the first element, all terms or the tail; three elements;
+// a polynomial; and its steps, what they leave, and how it ended.
 const REDUCTIONS: &str = "\
-lead/1:110;1:010;0:000/1:120/1:010:1 6:000:2 ||false
-lead/0:000;1:110;1:010/1:120/1:010:2 6:000:3 ||false
-lead/2:110;1:001;0:000/1:120 1:001/4:010:1 |6:010 1:001 |false
-lead/1:001;1:001;0:000/1:100 1:001/|1:100 1:001 |false
-tail/1:100 6:010;1:010 6:001;1:001 6:000/1:100 6:010/6:000:2 6:000:3 |1:100 6:000 |false
-tail/1:001;1:010;1:110/1:110 1:010 1:001/1:000:2 1:000:1 |1:110 |false";
+lead/1:110;1:010;0:000/1:120/1:010:1 6:000:2 ||Zero
+lead/0:000;1:110;1:010/1:120/1:010:2 6:000:3 ||Zero
+lead/2:110;1:001;0:000/1:120 1:001/4:010:1 |6:010 1:001 |Irreducible
+lead/1:001;1:001;0:000/1:100 1:001/|1:100 1:001 |Irreducible
+on/1:110;1:010;0:000/1:120/1:010:1 6:000:2 ||Zero
+on/1:010;1:110;1:001/1:120 1:100/1:110:1 |1:100 |Irreducible
+normal/1:010;0:000;0:000/1:200 1:010/1:000:1 |1:200 
+normal/1:001;1:010;1:110/1:110 1:010 1:001/1:100:2 1:000:2 1:000:1 |
+tail/1:100 6:010;1:010 6:001;1:001 6:000/1:100 6:010/6:000:2 6:000:3 |1:100 6:000 
+tail/1:001;1:010;1:110/1:110 1:010 1:001/1:000:2 1:000:1 |1:110 ";
 
 #[test]
-fn reduces_leading_terms_and_tails(rt: HostRuntime) -> Result<(), Fail> {
+fn reduces_leading_terms_all_terms_and_tails(rt: HostRuntime) -> Result<(), Fail> {
     let alloc = rt.alloc();
     let alg = weyl(alloc)?;
     for row in REDUCTIONS.lines() {
@@ -198,7 +326,7 @@ fn reduces_leading_terms_and_tails(rt: HostRuntime) -> Result<(), Fail> {
         let [kind, elements, h, want] = fields.as_slice() else {
             return Err("a row has four fields".into());
         };
-        let got = reduction(alloc, &alg, kind, elements, h)?;
+        let got = row_text(alloc, &alg, kind, elements, h)?;
         assert_eq!(rt; got.as_str(), *want, "{row}");
     }
     Ok(())
@@ -223,7 +351,7 @@ fn starts_within_the_degree(rt: HostRuntime) -> Result<(), Fail> {
     let f = power(alloc, &alg, 3000, 0, 0)?;
     let g = power(alloc, &alg, 0, 0, 3000)?;
     let basis = two(alloc, &alg, f, g)?;
-    match start_of(alloc, &alg, &basis, &[], &Job::Pair { i: 1, j: 2 }) {
+    match start(alloc, &alg, &basis, &Job::Pair { i: 1, j: 2 }) {
         Ok(_) => Err("the degrees add up to 6000".into()),
         Err(ProductFault::DegreeOver) => Ok(()),
         Err(ProductFault::Memory) => Err("there is memory".into()),
@@ -240,6 +368,30 @@ fn blocks(alloc: Global) -> Result<Algebra, Fail>
     Ok(ring)
 }
 
+// How the reduction and the normal form of `h` by one element end, at a table of its own, with a counter on the blank.
+fn ends<L: Ledger>(
+    alloc: Global,
+    ring: &Algebra,
+    basis: &Vec<GPoly>,
+    h: GPoly,
+    blank: Blank,
+) -> Result<(Reduced, Result<(GPoly, Trace), ProductFault>), AllocError>
+    requires few { length basis.now.items ≤ 1 }
+    requires sorted { Each (IsPolynomial ring.now.p ring.now.order) basis.now.items }
+    requires h_sorted { IsPolynomial ring.now.p ring.now.order h }
+    requires name { blank.name ≡ L.name }
+    requires parts { blank.parts ≡ L.parts }
+    requires some { 0 < blank.parts }
+{
+    let table = Table::new(alloc, ring)?;
+    let mut seat = table.seat(alloc)?;
+    let mut steps = Steps::<L>::start(blank);
+    let form = normal_form(alloc, &mut seat, basis, &h, &mut steps);
+    let trace = Trace::new(alloc);
+    let reduced = reduce_from(alloc, &mut seat, basis, h, trace, &mut steps)?;
+    Ok((reduced, form))
+}
+
 // x y^2000, where x - y^3000 would cancel it.
 #[test]
 fn reduces_within_the_degree(rt: HostRuntime) -> Result<(), Fail> {
@@ -250,8 +402,12 @@ fn reduces_within_the_degree(rt: HostRuntime) -> Result<(), Fail> {
     let element = x.sub(alloc, ring.field(), ring.order(), &y)?;
     let basis = Vec::from_array(alloc, [element]).map_err(AllocError::from)?;
     let h = power(alloc, &ring, 1, 2000, 0)?;
-    let reduced = reduce(alloc, &ring, &basis, h)?;
-    assert!(rt; reduced.over && reduced.trace.steps().is_empty());
+    let (reduced, form) = ends::<Brand>(alloc, &ring, &basis, h, Blank::new(1))?;
+    assert!(rt; reduced.ended == Ended::DegreeOver && reduced.trace.steps().is_empty());
     assert_eq!(rt; reduced.rest.degree(), 2001);
-    Ok(())
+    match form {
+        Ok(_) => Err("the step has a degree of 5000".into()),
+        Err(ProductFault::DegreeOver) => Ok(()),
+        Err(ProductFault::Memory) => Err("there is memory".into()),
+    }
 }

@@ -1,0 +1,63 @@
+//! Multiples by a monomial, and leading terms.
+
+ghost use Rattle.std.specs.Prelude.{◌≡◌, ◌≢◌, ◌<◌, ◌≤◌, true, false, IfOk, OnOk, Err, [], length};
+ghost use Rattle.monomials.specs.Monomials.{degree};
+ghost use Rattle.monomials.specs.Polynomials.{IsPolynomial};
+ghost use Rattle.monomials.specs.Leading.{leading_monomial, leading_coefficient};
+ghost use Rattle.word_model.specs.Reduction.{multiple, is_within, quotient};
+ghost use Rattle.gproduct.specs.Seats.{Keeps};
+ghost use Rattle.gproduct.specs.Counting.{Counts};
+
+use algebra::ProductFault;
+use gpoly::{GPoly, Term};
+use gproduct::{Steps, TableSeat, term_times};
+use monomials::Expo;
+use prime_field::Field;
+use std::alloc::Global;
+use std::sync::ledger::Ledger;
+
+// The product of a monomial and a nonzero polynomial. `DegreeOver` comes exactly where their degrees
+// add up to more than 4095.
+pub(crate) fn multiple<L: Ledger>(
+    alloc: Global,
+    seat: &mut TableSeat,
+    mono: &Expo,
+    g: &GPoly,
+    steps: &mut Steps<L>,
+) -> Result<GPoly, ProductFault>
+    requires vars { length mono.now ≡ seat.old.algebra.order.vars }
+    requires sorted { IsPolynomial seat.old.algebra.p seat.old.algebra.order g.now }
+    requires nonzero { g.now ≢ [] }
+    ensures value { IfOk result (λ r. r ≡ multiple seat.old.algebra 1 mono.now g.now) }
+    ensures nonzero { IfOk result (λ r. r ≢ []) }
+    ensures sorted { IfOk result (λ r. IsPolynomial seat.old.algebra.p seat.old.algebra.order r) }
+    ensures within { OnOk result (is_within mono.now g.now ≡ true) }
+    ensures over { result ≡ Err ProductFault.DegreeOver → is_within mono.now g.now ≡ false }
+    ensures algebra { seat.new.algebra ≡ seat.old.algebra }
+    ensures kept { Keeps seat.old seat.new }
+    ensures counted { Counts 1 result steps.old steps.new }
+{
+    let _n = seat.algebra().n();
+    term_times(alloc, seat, 1, mono, g, steps)
+}
+
+// The leading term of a nonzero polynomial.
+pub(crate) fn lead(f: &GPoly) -> &Term
+    requires { f.now ≢ [] }
+    ensures mono { result.now.mono ≡ leading_monomial f.now }
+    ensures coef { result.now.coef ≡ leading_coefficient f.now }
+    ensures small { degree result.now.mono ≤ 4095 }
+{
+    &f.terms()[0]
+}
+
+// The number a / b.
+pub(crate) fn quotient(field: Field, a: u32, b: u32) -> u32
+    requires a_in_range { a < field }
+    requires b_in_range { b < field }
+    requires nonzero { b ≢ 0 }
+    ensures value { result ≡ quotient field a b }
+    ensures in_range { result < field }
+{
+    field.mul(a, field.inv(b))
+}

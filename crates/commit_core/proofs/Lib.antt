@@ -1,2 +1,4 @@
 mod Queues
 mod Turning
+mod Bringing
+mod Seeding

@@ -8,6 +8,7 @@ use state::State;
 use std::alloc::{AllocError, Global};
 
 mod lead;
+mod progress;
 mod queue;
 mod state;
 #[cfg(test)]

@@ -2,3 +2,4 @@ mod Queues
 mod Turning
 mod Bringing
 mod Seeding
+mod Leading

@@ -305,6 +305,7 @@ impl Lead {
         ensures entry { result ≡ Ok Added → (entry : Entry) × (self.new.entries ≡ self.old.entries ++ entry ∷ [])
             × (entry_count entry ≡ start_count job + length reduced.trace) }
     {
+        let _n = alg.n();
         if self.progress.basis.len() >= MOST_ELEMENTS {
             return Ok(self.end(Outcome::BasisFull));
         }

@@ -3,3 +3,4 @@ mod Turning
 mod Bringing
 mod Seeding
 mod Leading
+mod Running

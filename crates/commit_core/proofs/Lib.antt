@@ -1,2 +1,6 @@
 mod Queues
 mod Turning
+mod Bringing
+mod Seeding
+mod Leading
+mod Running

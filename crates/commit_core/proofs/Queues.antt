@@ -17,7 +17,7 @@ use Rattle.word_model.specs.declared.records.Job.TheVariants.{Seed, Pair, Right}
 use Rattle.word_model.proofs.Associativity.{length-variable}
 use Rattle.word_model.proofs.LeastNumbers.{Each-element}
 use Rattle.commit_core.specs.Named.{IsNamed}
-use Rattle.commit_core.specs.declared.queue.Keyed.{Keyed}
+use Rattle.pair_strategy.specs.declared.keys.Keyed.{Keyed}
 
 -- elements are polynomials
 pub elements-sorted : (A : Algebra) (G : List Polynomial) → Each (IsElement A) G → Each (IsPolynomial A.p A.order) G
@@ -55,13 +55,13 @@ key-vars A gens G (Right i v) sorted h named =
 
 -- a job of a run, with the monomial of its key
 pub record IsKeyed (A : Algebra) (gens G : List Polynomial) (k : Keyed) : Type 0 where
-  pub key : k.monomial ≡ key_monomial A gens G k.job
-  pub vars : length k.monomial ≡ A.order.vars
+  pub key : k.mono ≡ key_monomial A gens G k.job
+  pub vars : length k.mono ≡ A.order.vars
   pub named : IsNamed A gens G k.job
 
 -- the lesser of two jobs
 abbrev pub lesser : RowOrder → Keyed → Keyed → Keyed
-lesser o a b = if is_lt (ordering_then (order_cmp o.rows a.monomial b.monomial) (rank_cmp (rank_of a.job) (rank_of b.job))) then a else b
+lesser o a b = if is_lt (ordering_then (order_cmp o.rows a.mono b.mono) (rank_cmp (rank_of a.job) (rank_of b.job))) then a else b
 
 -- the least job among these is that of the lesser and the others
 pub least_job-step : (A : Algebra) (gens G : List Polynomial) (o : RowOrder) (a b r : Keyed) (jobs : List Job) → o ≡ A.order
@@ -72,8 +72,8 @@ least_job-step A gens G o a b r jobs order ka kb e = by (is_lt (key_cmp A gens G
     lesser_at : Monomial → Monomial → Keyed
     lesser_at x y = if is_lt (ordering_then (order_cmp A.order.rows x y) (rank_cmp (rank_of a.job) (rank_of b.job))) then a else b
 
-    same : lesser_at a.monomial b.monomial ≡ lesser_at (key_monomial A gens G a.job) (key_monomial A gens G b.job)
-    same = ap (λ x. lesser_at x b.monomial) ka.key ∙ ap (λ y. lesser_at (key_monomial A gens G a.job) y) kb.key
+    same : lesser_at a.mono b.mono ≡ lesser_at (key_monomial A gens G a.job) (key_monomial A gens G b.job)
+    same = ap (λ x. lesser_at x b.mono) ka.key ∙ ap (λ y. lesser_at (key_monomial A gens G a.job) y) kb.key
 
     by : (t : Bool) → is_lt (key_cmp A gens G a.job b.job) ≡ t → r ≡ (if t then a else b)
         → (least_job A gens G (if t then a.job else b.job) jobs ≡ least_job A gens G r.job jobs) × IsKeyed A gens G r

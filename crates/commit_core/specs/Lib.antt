@@ -1,3 +1,4 @@
 pub mod Named
 pub mod Turns
 pub mod Leads
+pub mod Kept

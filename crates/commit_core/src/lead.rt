@@ -1,25 +1,34 @@
 //! The lead: a run of the machine, which one thread goes on with a commit at a time.
 
-ghost use Rattle.std.specs.Prelude.{◌≡◌, ◌≢◌, ◌+◌, ◌++◌, ◌∷◌, [], ◌≤◌, IfOk, IfSome, MatchOption, Ok, Some, None, IsSome, length, take};
+ghost use Rattle.std.specs.Prelude.{◌≡◌, ◌≢◌, suc, ◌+◌, ◌<◌, ◌≤◌, ◌++◌, ◌∷◌, [], List, nat_le, if◌then◌else◌, IfOk, IfSome, MatchOption, Ok, Some, None, IsSome, length, take};
 ghost use Rattle.monomials.specs.Polynomials.{Each, IsPolynomial};
-ghost use Rattle.word_model.specs.Jobs.{least_job};
-ghost use Rattle.word_model.specs.Machine.{State, first_state};
+ghost use Rattle.word_model.specs.Jobs.{least_job, start_of, chain_witness, without};
+ghost use Rattle.word_model.specs.Machine.{State, On, Over, IsElement, first_state, with_entry, with_element, jobs_of, turn_of_start, turn_of_rest, most_elements};
 ghost use Rattle.word_model.specs.declared.records.Job.{Job};
 ghost use Rattle.word_model.specs.declared.records.Entry.{Entry};
 ghost use Rattle.word_model.specs.declared.records.Outcome.{Outcome};
+ghost use Rattle.word_model.specs.declared.records.Outcome.TheVariants.{BasisFull};
 ghost use Rattle.gproduct.specs.Seats.{Keeps};
+ghost use Rattle.left_reduce.specs.Reductions.{start_count, ended_of};
+ghost use Rattle.commit_core.specs.Named.{IsNamed};
 ghost use Rattle.commit_core.specs.Leads.{IsAt, IsCommit, entry_count};
+ghost use Rattle.commit_core.specs.Kept.{Turns, reduction_of};
 ghost use Rattle.commit_core.specs.declared.lead.Committed.TheVariants.{Added, Over as Ended};
 
-use algebra::Algebra;
+use crate::progress::Progress;
+use algebra::{Algebra, ProductFault};
 use gpoly::GPoly;
 use gproduct::{Steps, TableSeat};
-use pair_strategy::Queue;
-use run_records::{Entry, Job, Journal, Mode, Outcome, Spec};
+use left_reduce::{self, Reduced, reduce_from, start_of};
+use pair_strategy::{self, chain_witness};
+use run_records::{Entry, Job, Journal, Mode, Outcome, Spec, Trace};
 use std::alloc::{AllocError, Global};
 use std::marker::Model;
 use std::snapshot::Snapshot;
 use std::sync::ledger::Ledger;
+
+// The most elements that a basis may have.
+const MOST_ELEMENTS: usize = 2048;
 
 /// What a commit did.
 #[derive(Clone, Copy, Debug, PartialEq, Eq)]
@@ -38,28 +47,19 @@ pub struct Lead {
     generators: Vec<GPoly>,
     mode: Mode,
     budget: u32,
-    entries: Vec<Entry>,
-    basis: Vec<GPoly>,
-    queue: Queue,
+    progress: Progress,
     outcome: Option<Outcome>,
 }
 
 impl Model for Lead {
-    ghost use Rattle.pair_strategy.specs.Queues.{jobs_in};
     ghost use Rattle.commit_core.specs.Leads.{Run};
+    ghost use Rattle.commit_core.specs.Kept.{kept_run, IsKept};
 
     ghost Value = { Run };
 
-    ghost view = { λ l. record {
-      algebra = l.algebra.value;
-      generators = l.generators.items;
-      mode = l.mode;
-      budget = l.budget;
-      entries = l.entries.items;
-      basis = l.basis.items;
-      jobs = jobs_in l.queue.items;
-      outcome = l.outcome;
-    } };
+    ghost view = { kept_run };
+
+    ghost invariant = { IsKept };
 }
 
 impl Lead {
@@ -82,7 +82,75 @@ impl Lead {
         ensures outcome { IfOk result (λ lead. lead.outcome ≡ None) }
         ensures state { IfOk result (λ lead. IsAt lead (first_state gens.now)) }
     {
-        Err(AllocError)
+        let _n = alg.n();
+        let progress = Progress::new(alloc, alg, gens)?;
+        Ok(Lead {
+            algebra: Snapshot::of(alg),
+            generators: copies(alloc, gens)?,
+            mode,
+            budget,
+            progress,
+            outcome: None,
+        })
+    }
+
+    /// The job that comes first: that of the least key. Takes no memory.
+    pub fn first(&self) -> Option<&Job>
+        ensures value { MatchOption result (self.now.jobs ≡ [])
+            (λ job. (rest : List Job) × (self.now.jobs ≡ job.now ∷ rest)) }
+        ensures least { IfSome result (λ job. (s : State) (a : Job) (queue : List Job) → IsAt self.now s →
+            s.queue ≡ a ∷ queue →
+            least_job self.now.algebra self.now.generators self.now.basis a queue ≡ job.now) }
+    {
+        pair_strategy::laws::first_is_least();
+        match self.progress.queue.first() {
+            Some(item) => Some(&item.job),
+            None => None,
+        }
+    }
+
+    /// The generators, as they were given. Takes no memory.
+    pub fn generators(&self) -> &[GPoly]
+        ensures { result.now ≡ self.now.generators }
+    {
+        &self.generators
+    }
+
+    /// The elements so far. Takes no memory.
+    pub fn basis(&self) -> &Vec<GPoly>
+        ensures { result.now.items ≡ self.now.basis }
+    {
+        &self.progress.basis
+    }
+
+    /// The entries so far. Takes no memory.
+    pub fn entries(&self) -> &[Entry]
+        ensures { result.now ≡ self.now.entries }
+    {
+        &self.progress.entries
+    }
+
+    /// The first `k` jobs in the order of their keys, or all.
+    pub fn ahead(&self, alloc: Global, k: usize) -> Result<Vec<Job>, AllocError>
+        ensures { IfOk result (λ jobs. jobs.items ≡ take k self.now.jobs) }
+    {
+        self.progress.queue.ahead(alloc, k)
+    }
+
+    /// The run's journal, once it is over. Takes no memory.
+    pub fn into_journal(self) -> Journal
+        requires over { IsSome self.outcome }
+        ensures { (outcome : Outcome) → self.outcome ≡ Some outcome →
+            result ≡ record { entries = self.entries; basis = self.basis; outcome = outcome } }
+    {
+        let Lead {
+            progress, outcome, ..
+        } = self;
+        Journal {
+            entries: progress.entries,
+            basis: progress.basis,
+            outcome: outcome.unwrap(),
+        }
     }
 
     /// One step of the machine. Once the run is over, each further commit answers the same outcome
@@ -104,6 +172,184 @@ impl Lead {
         ensures seat_algebra { seat.new.algebra ≡ seat.old.algebra }
         ensures kept { Keeps seat.old seat.new }
     {
-        Err(AllocError)
+        pair_strategy::laws::queues_are_sets();
+        let _none = spec;
+        if let Some(outcome) = self.outcome {
+            return Ok(Committed::Over(outcome));
+        }
+        let Some(first) = self.first() else {
+            return Ok(self.end(Outcome::Finished));
+        };
+        let job = *first;
+        if self.budget as usize <= self.progress.entries.len() {
+            return Ok(self.end(Outcome::BudgetSpent));
+        }
+        match self.witness(&job) {
+            Some(by) => self.enter(job, Entry::Skipped { job, by }),
+            None => self.reduce_job(alloc, seat, job, steps),
+        }
     }
+
+    // The run ends here.
+    fn end(&mut self, outcome: Outcome) -> Committed
+        requires over { Turns self.old (λ s. Over outcome) }
+        ensures value { result ≡ Ended outcome }
+        ensures step { IsCommit self.old self.new (Ok result) }
+    {
+        self.outcome = Some(outcome);
+        Committed::Over(outcome)
+    }
+
+    // The chain witness of a job.
+    fn witness(&self, job: &Job) -> Option<u32>
+        requires named { IsNamed self.now.algebra self.now.generators self.now.basis job.now }
+        ensures { result ≡ chain_witness self.now.basis self.now.jobs job.now }
+    {
+        match *job {
+            Job::Pair { i, j } => {
+                chain_witness(&self.progress.queue, &self.progress.basis, i, j)
+            }
+            Job::Seed { .. } | Job::Right { .. } => None,
+        }
+    }
+
+    // The turn of the first job that leaves with this entry, and without an element.
+    fn enter(&mut self, job: Job, entry: Entry) -> Result<Committed, AllocError>
+        requires going { self.old.outcome ≡ None }
+        requires first { (rest : List Job) × (self.old.jobs ≡ job ∷ rest) }
+        requires turn { Turns self.old (λ s. On (with_entry s job entry)) }
+        ensures step { IsCommit self.old self.new result }
+        ensures entry { result ≡ Ok Added → self.new.entries ≡ self.old.entries ++ entry ∷ [] }
+    {
+        pair_strategy::laws::queues_are_sets();
+        self.progress.enter(entry)?;
+        Ok(Committed::Added)
+    }
+
+    // The turn of the first job, which no witness skips.
+    fn reduce_job<L: Ledger>(
+        &mut self,
+        alloc: Global,
+        seat: &mut TableSeat,
+        job: Job,
+        steps: &mut Steps<L>,
+    ) -> Result<Committed, AllocError>
+        requires algebra { seat.old.algebra ≡ self.old.algebra }
+        requires going { self.old.outcome ≡ None }
+        requires first { (rest : List Job) × (self.old.jobs ≡ job ∷ rest) }
+        requires turn { Turns self.old (λ s.
+            turn_of_start self.old.algebra self.old.mode s job (start_of self.old.algebra self.old.generators s.basis job)) }
+        ensures step { IsCommit self.old self.new result }
+        ensures counted { result ≡ Ok Added → (entry : Entry) →
+            self.new.entries ≡ self.old.entries ++ entry ∷ [] → steps.new ≡ steps.old + entry_count entry }
+        ensures seat_algebra { seat.new.algebra ≡ seat.old.algebra }
+        ensures kept { Keeps seat.old seat.new }
+    {
+        let alg = seat.algebra();
+        let basis = &self.progress.basis;
+        let start = match start_of(alloc, seat, basis, &self.generators, &job, steps) {
+            Ok(start) => start,
+            Err(ProductFault::DegreeOver) => return Ok(self.end(Outcome::DegreeOver)),
+            Err(ProductFault::Memory) => return Err(AllocError),
+        };
+        let basis = &self.progress.basis;
+        let reduced = reduce_from(alloc, seat, basis, start, Trace::new(alloc), steps)?;
+        self.enter_reduced(alloc, alg, job, reduced)
+    }
+
+    // The turn of the first job, whose start was reduced.
+    fn enter_reduced(
+        &mut self,
+        alloc: Global,
+        alg: &Algebra,
+        job: Job,
+        reduced: Reduced,
+    ) -> Result<Committed, AllocError>
+        requires algebra { alg.now ≡ self.old.algebra }
+        requires going { self.old.outcome ≡ None }
+        requires first { (rest : List Job) × (self.old.jobs ≡ job ∷ rest) }
+        requires sorted { IsPolynomial alg.now.p alg.now.order reduced.rest }
+        requires ended { reduced.ended ≡ ended_of (reduction_of reduced) }
+        requires turn { Turns self.old (λ s.
+            turn_of_rest self.old.algebra self.old.mode s job (reduction_of reduced)) }
+        ensures step { IsCommit self.old self.new result }
+        ensures entry { result ≡ Ok Added → (entry : Entry) × (self.new.entries ≡ self.old.entries ++ entry ∷ [])
+            × (entry_count entry ≡ start_count job + length reduced.trace) }
+    {
+        match reduced.ended {
+            left_reduce::Ended::DegreeOver => Ok(self.end(Outcome::DegreeOver)),
+            left_reduce::Ended::Zero => {
+                let Reduced { trace, .. } = reduced;
+                self.enter(job, Entry::Zero { job, trace })
+            }
+            left_reduce::Ended::Irreducible => self.enter_element(alloc, alg, job, reduced),
+        }
+    }
+
+    // The turn of the first job, whose start was reduced to a new element.
+    fn enter_element(
+        &mut self,
+        alloc: Global,
+        alg: &Algebra,
+        job: Job,
+        reduced: Reduced,
+    ) -> Result<Committed, AllocError>
+        requires algebra { alg.now ≡ self.old.algebra }
+        requires going { self.old.outcome ≡ None }
+        requires first { (rest : List Job) × (self.old.jobs ≡ job ∷ rest) }
+        requires sorted { IsPolynomial alg.now.p alg.now.order reduced.rest }
+        requires nonzero { reduced.rest ≢ [] }
+        requires turn { Turns self.old (λ s. if nat_le most_elements (length s.basis) then Over BasisFull
+            else On (with_element self.old.algebra self.old.mode s job (reduction_of reduced))) }
+        ensures step { IsCommit self.old self.new result }
+        ensures entry { result ≡ Ok Added → (entry : Entry) × (self.new.entries ≡ self.old.entries ++ entry ∷ [])
+            × (entry_count entry ≡ start_count job + length reduced.trace) }
+    {
+        let _n = alg.n();
+        if self.progress.basis.len() >= MOST_ELEMENTS {
+            return Ok(self.end(Outcome::BasisFull));
+        }
+        let Reduced { trace, rest, .. } = reduced;
+        let (element, scale) = rest.monic(alloc, alg.field())?;
+        self.admit(alloc, alg, job, Entry::New { job, trace, scale }, element)
+    }
+
+    // The turn of the first job that leaves with this entry and this element.
+    fn admit(
+        &mut self,
+        alloc: Global,
+        alg: &Algebra,
+        job: Job,
+        entry: Entry,
+        element: GPoly,
+    ) -> Result<Committed, AllocError>
+        requires algebra { alg.now ≡ self.old.algebra }
+        requires going { self.old.outcome ≡ None }
+        requires first { (rest : List Job) × (self.old.jobs ≡ job ∷ rest) }
+        requires few { length self.old.basis < 2048 }
+        requires element { IsElement self.old.algebra element }
+        requires turn { Turns self.old (λ s. On (record {
+          entries = s.entries ++ entry ∷ [];
+          basis = s.basis ++ element ∷ [];
+          queue = without job s.queue ++ jobs_of self.old.mode self.old.algebra.order.vars (suc (length s.basis));
+        })) }
+        ensures step { IsCommit self.old self.new result }
+        ensures entry { result ≡ Ok Added → self.new.entries ≡ self.old.entries ++ entry ∷ [] }
+    {
+        pair_strategy::laws::queues_are_sets();
+        let _n = alg.n();
+        self.progress.admit(alloc, alg, &self.generators, self.mode, entry, element)?;
+        Ok(Committed::Added)
+    }
+}
+
+// A copy of polynomials.
+fn copies(alloc: Global, polys: &[GPoly]) -> Result<Vec<GPoly>, AllocError>
+    ensures { IfOk result (λ all. all.items ≡ polys.now) }
+{
+    let mut all = Vec::with_capacity(alloc, polys.len())?;
+    for poly in polys {
+        all.push(poly.copy(alloc)?)?;
+    }
+    Ok(all)
 }

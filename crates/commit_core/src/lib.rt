@@ -1,19 +1,28 @@
-//! The machine that makes Gröbner bases, on one thread.
+//! The machine that makes Gröbner bases: a run that goes on a step at a time, and an engine on one
+//! thread.
 #![tactic(auto)]
+
+ghost use Rattle.std.specs.Prelude.{◌≡◌, suc, ◌-◌, ◌<◌, None, IfOk, length};
+ghost use Rattle.word_model.specs.Machine.{State, run_within};
+ghost use Rattle.commit_core.specs.Leads.{IsAt};
 
 use algebra::Algebra;
 use gpoly::GPoly;
+use gproduct::{Steps, Table, TableSeat};
 use run_records::{Engine, Journal, Mode};
-use state::State;
 use std::alloc::{AllocError, Global};
+use std::marker::Brand;
+use std::sync::ledger::{Blank, Ledger};
+
+pub use lead::{Committed, Lead};
 
 mod lead;
-mod queue;
-mod state;
+mod progress;
 #[cfg(test)]
 mod tests;
 
-/// An engine on one thread: the plain program of the machine, over plain lists.
+/// An engine on one thread: a lead that it goes on with until the run is over, over a table of
+/// products of its own.
 #[derive(Debug, Drop)]
 pub struct OneWorker {}
 
@@ -35,12 +44,35 @@ impl Engine for OneWorker {
         mode: Mode,
         budget: u32,
     ) -> Result<Journal, AllocError> {
-        let _n = alg.n();
-        let mut state = State::first(alloc, gens)?;
-        loop {
-            if let Some(outcome) = state.step(alloc, alg, gens, mode, budget)? {
-                return Ok(state.into_journal(outcome));
-            }
+        let table = Table::new(alloc, alg)?;
+        let mut seat = table.seat(alloc)?;
+        let lead = Lead::new(alloc, alg, gens, mode, budget)?;
+        led::<Brand>(alloc, &mut seat, lead, Blank::new(1))
+    }
+}
+
+// The journal of a lead that is gone on with until it is over.
+fn led<L: Ledger>(
+    alloc: Global,
+    seat: &mut TableSeat,
+    lead: Lead,
+    blank: Blank,
+) -> Result<Journal, AllocError>
+    requires algebra { seat.old.algebra ≡ lead.algebra }
+    requires going { lead.outcome ≡ None }
+    requires name { blank.name ≡ L.name }
+    requires parts { blank.parts ≡ L.parts }
+    requires some { 0 < blank.parts }
+    ensures { IfOk result (λ journal. (s : State) → IsAt lead s →
+        journal ≡ run_within lead.algebra lead.generators lead.mode lead.budget
+        (suc (lead.budget - length s.entries)) s) }
+{
+    let mut steps: Steps<L> = Steps::start(blank);
+    let mut lead = lead;
+    loop {
+        match lead.commit(alloc, seat, None, &mut steps)? {
+            Committed::Added => {}
+            Committed::Over(_) => return Ok(lead.into_journal()),
         }
     }
 }

@@ -12,6 +12,10 @@ use prime_field::Field;
 use run_records::{Entry, Job, Outcome, Trace};
 use std::test::Fail;
 
+mod plain;
+mod queue;
+mod state;
+
 // The monomial with these digits as exponents.
 fn monomial(digits: &str) -> Result<Expo, Fail>
     ensures { IfOk result (λ m. degree m ≤ 4095) }

@@ -1,12 +1,4 @@
-use Rattle.std.proofs.Common.{◌≡◌, suc, ◌-◌, length}
-use Rattle.word_model.specs.Machine.{IsState, run_within, machine}
 use Rattle.commit_core.proofs.OneWorkerEngine.basis.Given as goal
 
-abbrev pub invariant-loop-state : goal.invariant-loop-state
-invariant-loop-state l = record {
-  is : IsState l.alg l.gens l.state;
-  run : machine l.alg l.gens l.mode l.budget ≡ run_within l.alg l.gens l.mode l.budget (suc (l.budget - length l.state.entries)) l.state;
-}
-
-abbrev pub decreases-loop-state : goal.decreases-loop-state
-decreases-loop-state l = l.budget - length l.state.entries
+abbrev pub ghosts-led : goal.ghosts-led
+ghosts-led a = record { name = a.blank.name; parts = a.blank.parts }

@@ -1,0 +1,389 @@
+-- A lead and the machine: the turn of each state that a lead is at, and where the lead is after it.
+use Rattle.std.proofs.Common.{◌≡◌, ◌≢◌, ℕ, suc, ◌+◌, ◌<◌, ◌≤◌, nat_le, ◌||◌, ◌&&◌, ◌==◌, ◌⊎◌, inl, inr, Bool, true, false, List, [], ◌∷◌, ◌++◌, length, drop, Option, Some, None, IfSome, Ok, if◌then◌else◌, refl, sym, ap, ◌∙◌, subst, arith, length-append}
+use Rattle.std.proofs.lemmas.Bool.Decides.{nat_tests}
+use Rattle.prime_field.specs.Modular.{inverse}
+use Rattle.monomials.specs.Polynomials.{Polynomial, Each, IsPolynomial, poly_scale}
+use Rattle.monomials.specs.Orders.{RowOrder}
+use Rattle.monomials.specs.Leading.{leading_coefficient}
+use Rattle.word_model.specs.Words.{Algebra}
+use Rattle.word_model.specs.Conditions.{IsAccepted}
+use Rattle.word_model.specs.Reduction.{Reduced as Reduction, reduce}
+use Rattle.word_model.specs.Jobs.{same_job, is_queued, without, least_job, start_of, chain_witness}
+use Rattle.word_model.specs.Machine.{State, Turn, On, Over, step, turn_of_job, turn_of_start, turn_of_rest, with_entry, with_element, jobs_of, most_elements, seeds_from, first_state, IsElement, IsState}
+use Rattle.word_model.specs.declared.records.Job.{Job}
+use Rattle.word_model.specs.declared.records.Job.TheVariants.{Seed, Pair, Right}
+use Rattle.word_model.specs.declared.records.Mode.{Mode}
+use Rattle.word_model.specs.declared.records.Entry.{Entry}
+use Rattle.word_model.specs.declared.records.Entry.TheVariants.{Skipped, Zero, New}
+use Rattle.word_model.specs.declared.records.Outcome.{Outcome}
+use Rattle.word_model.specs.declared.records.Outcome.TheVariants.{Finished, BudgetSpent, BasisFull, DegreeOver}
+use Rattle.word_model.proofs.Steps.{first_state-is, step-keeps}
+use Rattle.pair_strategy.specs.Queues.{JobQueue, jobs_in, IsRising, IsQueue, IsSet, HasKey, SameJobs}
+use Rattle.pair_strategy.specs.declared.keys.Keyed.{Keyed}
+use Rattle.left_reduce.specs.Reductions.{GoneOn, behind_steps, ended_of, ends_at}
+use Rattle.left_reduce.specs.declared.reducing.Ended.{Ended}
+use Rattle.left_reduce.specs.declared.reducing.Ended.TheVariants.{Zero as Nothing, Irreducible, DegreeOver as Undefined}
+use Rattle.commit_core.specs.Leads.{Run, IsAt, IsCommit, run_step}
+use Rattle.commit_core.specs.Named.{IsNamed}
+use Rattle.commit_core.specs.Kept.{Turns, IsLead, is_over, reduction_of}
+use Rattle.commit_core.specs.declared.lead.Committed.TheVariants.{Added}
+use Rattle.commit_core.proofs.Bringing.{queued-append, Each-rest}
+use Rattle.commit_core.proofs.Turning.{step-finished, step-spent, step-job, with_element-is}
+
+-- ---- sets of jobs
+
+same_job-is : (a b : Job) → same_job a b ≡ true → a ≡ b
+same_job-is (Seed s) (Seed t) e = let same : s ≡ t = grind (arith, nat_tests) in ap Seed same
+same_job-is (Pair i j) (Pair k l) e = let both : (i ≡ k) × (j ≡ l) = parts (i == k) (j == l) refl refl e in cc
+  where
+    parts : (a b : Bool) → (i == k) ≡ a → (j == l) ≡ b → (a && b) ≡ true → (i ≡ k) × (j ≡ l)
+    parts true true f g h = (grind (arith, nat_tests), grind (arith, nat_tests))
+    parts true false f g h = cc
+    parts false b f g h = cc
+same_job-is (Right i v) (Right k w) e = let both : (i ≡ k) × (v ≡ w) = parts (i == k) (v == w) refl refl e in cc
+  where
+    parts : (a b : Bool) → (i == k) ≡ a → (v == w) ≡ b → (a && b) ≡ true → (i ≡ k) × (v ≡ w)
+    parts true true f g h = (grind (arith, nat_tests), grind (arith, nat_tests))
+    parts true false f g h = cc
+    parts false b f g h = cc
+same_job-is (Seed s) (Pair k l) e = cc
+same_job-is (Seed s) (Right k w) e = cc
+same_job-is (Pair i j) (Seed t) e = cc
+same_job-is (Pair i j) (Right k w) e = cc
+same_job-is (Right i v) (Seed t) e = cc
+same_job-is (Right i v) (Pair k l) e = cc
+
+equal : (a : ℕ) → (a == a) ≡ true
+equal a = grind (arith, nat_tests)
+
+same_job-itself : (job : Job) → same_job job job ≡ true
+same_job-itself (Seed s) = equal s
+same_job-itself (Pair i j) = rw (equal i) (equal j)
+same_job-itself (Right i v) = rw (equal i) (equal v)
+
+queued-first : (job : Job) (jobs : List Job) → is_queued (job ∷ jobs) job ≡ true
+queued-first job jobs = rw (same_job-itself job) refl
+
+or_second : (a b : Bool) → b ≡ true → (a || b) ≡ true
+or_second true b e = refl
+or_second false b e = e
+
+-- what holds of each job of a list holds of each that is queued there
+Each-at : (P : Job → Type 0) (jobs : List Job) (job : Job) → Each P jobs → is_queued jobs job ≡ true → P job
+Each-at P [] job h e = cc
+Each-at P (first ∷ jobs) job h e = by (same_job job first) refl e (Each-at P jobs job h.1)
+  where
+    by : (t : Bool) → same_job job first ≡ t → (t || is_queued jobs job) ≡ true → (is_queued jobs job ≡ true → P job) → P job
+    by true is e behind = subst P (sym (same_job-is job first is)) h.0
+    by false is e behind = behind e
+
+Each-queued : (P : Job → Type 0) (jobs : List Job) → ((job : Job) → is_queued jobs job ≡ true → P job) → Each P jobs
+Each-queued P [] h = tt
+Each-queued P (job ∷ jobs) h = (h job (queued-first job jobs), Each-queued P jobs (λ other e. h other (or_second (same_job other job) (is_queued jobs other) e)))
+
+-- and of each of a list with the same jobs
+pub Each-same : (P : Job → Type 0) (jobs others : List Job) → SameJobs jobs others → Each P jobs → Each P others
+Each-same P jobs others same h = Each-queued P others (λ job e. Each-at P jobs job h (same job ∙ e))
+
+no_jobs : (jobs : List Job) → SameJobs jobs [] → jobs ≡ []
+no_jobs [] same = refl
+no_jobs (job ∷ jobs) same = let no : true ≡ false = sym (queued-first job jobs) ∙ same job in cc
+
+some_jobs : (jobs : List Job) (job : Job) (rest : List Job) → SameJobs jobs (job ∷ rest) → (a : Job) × (queue : List Job) × (jobs ≡ a ∷ queue)
+some_jobs [] job rest same = let no : false ≡ true = same job ∙ queued-first job rest in cc
+some_jobs (a ∷ queue) job rest same = (a, queue, refl)
+
+-- the law of a queue's first job, taken out of any list of the same jobs
+abbrev pub Taking : Type 0
+Taking = (first : Keyed) (rest : List Keyed) (jobs : List Job) → IsSet (jobs_in (first ∷ rest)) → SameJobs jobs (jobs_in (first ∷ rest)) → SameJobs (without first.job jobs) (jobs_in rest)
+
+left_jobs : Taking → (items : List Keyed) (jobs rest : List Job) (job : Job) → IsSet (jobs_in items) → SameJobs jobs (jobs_in items) → jobs_in items ≡ job ∷ rest
+    → SameJobs (without job jobs) (jobs_in (drop 1 items))
+left_jobs taking [] jobs rest job set same e = cc
+left_jobs taking (first ∷ items) jobs rest job set same e =
+    let is : first.job ≡ job = cc in
+    subst (λ j. SameJobs (without j jobs) (jobs_in items)) is (taking first items jobs set same)
+
+-- ---- the turn of each state that a run is at
+
+module _ (run : Run) where
+  pub turn-finished : run.jobs ≡ [] → Turns run (λ s. Over Finished)
+  turn-finished e s at =
+      step-finished run.algebra run.generators run.mode run.budget s (no_jobs s.queue (subst (SameJobs s.queue) e at.jobs))
+
+  pub turn-spent : (job : Job) (rest : List Job) → run.jobs ≡ job ∷ rest → run.budget ≤ length run.entries → Turns run (λ s. Over BudgetSpent)
+  turn-spent job rest e spent s at =
+      let some = some_jobs s.queue job rest (subst (SameJobs s.queue) e at.jobs) in
+      step-spent run.algebra run.generators run.mode run.budget s some.0 some.1 some.2 (omega (arith, ap length at.entries))
+
+  -- the first job's turn, with its witness
+  pub turn-job : (job : Job) (rest : List Job) → run.jobs ≡ job ∷ rest → length run.entries < run.budget
+      → ((s : State) (a : Job) (queue : List Job) → IsAt run s → s.queue ≡ a ∷ queue → least_job run.algebra run.generators run.basis a queue ≡ job)
+      → ((G : List Polynomial) (jobs others : List Job) (job : Job) → SameJobs jobs others → chain_witness G jobs job ≡ chain_witness G others job)
+      → Turns run (λ s. turn_of_job run.algebra run.generators run.mode s job (chain_witness run.basis run.jobs job))
+  turn-job job rest e room least witness s at =
+      let some = some_jobs s.queue job rest (subst (SameJobs s.queue) e at.jobs) in
+      let is : least_job run.algebra run.generators s.basis some.0 some.1 ≡ job =
+      subst (λ (G : List Polynomial). least_job run.algebra run.generators G some.0 some.1 ≡ job) (sym at.basis) (least s some.0 some.1 at some.2) in
+      let found : chain_witness s.basis s.queue job ≡ chain_witness run.basis run.jobs job =
+      witness s.basis s.queue run.jobs job at.jobs ∙ ap (λ (G : List Polynomial). chain_witness G run.jobs job) at.basis in
+      step-job run.algebra run.generators run.mode run.budget s some.0 some.1 some.2 (omega (arith, ap length at.entries))
+      ∙ ap (λ j. turn_of_job run.algebra run.generators run.mode s j (chain_witness s.basis s.queue j)) is
+      ∙ ap (turn_of_job run.algebra run.generators run.mode s job) found
+
+  -- it is skipped by its witness, or its start is reduced
+  pub turn-by : (job : Job) (found : Option ℕ) → found ≡ chain_witness run.basis run.jobs job
+      → Turns run (λ s. turn_of_job run.algebra run.generators run.mode s job (chain_witness run.basis run.jobs job))
+      → Turns run (λ s. turn_of_job run.algebra run.generators run.mode s job found)
+  turn-by job found e turn s at = turn s at ∙ ap (turn_of_job run.algebra run.generators run.mode s job) (sym e)
+
+  -- a start that is undefined
+  pub turn-undefined : (job : Job) → Turns run (λ s. turn_of_start run.algebra run.mode s job (start_of run.algebra run.generators s.basis job))
+      → start_of run.algebra run.generators run.basis job ≡ None → Turns run (λ s. Over DegreeOver)
+  turn-undefined job turn e s at =
+      turn s at ∙ ap (turn_of_start run.algebra run.mode s job) (ap (λ (G : List Polynomial). start_of run.algebra run.generators G job) at.basis ∙ e)
+
+  reduction-is : (r : Reduction) → reduction_of (behind_steps [] r) ≡ r
+  reduction-is r = by r.over r.rest refl refl
+    where
+      same : (b : Bool) (rest : Polynomial) → is_over (if b then Undefined else ends_at rest) ≡ b
+      same true rest = refl
+      same false [] = refl
+      same false (t ∷ f) = refl
+
+      by : (b : Bool) (rest : Polynomial) → r.over ≡ b → r.rest ≡ rest → reduction_of (behind_steps [] r) ≡ r
+      by b rest e h = ap (λ over. record { trace = r.trace; rest = r.rest; over = over }) (same r.over r.rest)
+
+  -- a start that was reduced
+  pub turn-reduced : (job : Job) (h : Polynomial) (reduced : GoneOn)
+      → Turns run (λ s. turn_of_start run.algebra run.mode s job (start_of run.algebra run.generators s.basis job))
+      → start_of run.algebra run.generators run.basis job ≡ Some h → reduced ≡ behind_steps [] (reduce run.algebra run.basis h)
+      → Turns run (λ s. turn_of_rest run.algebra run.mode s job (reduction_of reduced))
+  turn-reduced job h reduced turn e is s at =
+      let r : reduce run.algebra s.basis h ≡ reduction_of reduced =
+      ap (λ (G : List Polynomial). reduce run.algebra G h) at.basis ∙ sym (reduction-is (reduce run.algebra run.basis h)) ∙ ap reduction_of (sym is) in
+      turn s at
+      ∙ ap (turn_of_start run.algebra run.mode s job) (ap (λ (G : List Polynomial). start_of run.algebra run.generators G job) at.basis ∙ e)
+      ∙ ap (turn_of_rest run.algebra run.mode s job) r
+
+-- how a reduction ends
+pub ended-same : (r : Reduction) (reduced : GoneOn) → reduced ≡ behind_steps [] r → reduced.ended ≡ ended_of (reduction_of reduced)
+ended-same r reduced e = subst (λ (g : GoneOn). g.ended ≡ ended_of (reduction_of g)) (sym e) (by r.over r.rest)
+  where
+    by : (b : Bool) (rest : Polynomial) → (if b then Undefined else ends_at rest) ≡ (if is_over (if b then Undefined else ends_at rest) then Undefined else ends_at rest)
+    by true rest = refl
+    by false [] = refl
+    by false (t ∷ f) = refl
+
+module _ (run : Run) (job : Job) (r : GoneOn) (ended : r.ended ≡ ended_of (reduction_of r)) (turn : Turns run (λ s. turn_of_rest run.algebra run.mode s job (reduction_of r))) where
+  abbrev After : State → Bool → Polynomial → Turn
+  After s over rest = if over then Over DegreeOver else elim rest [
+    | [] ↦ On (with_entry s job (Zero job r.trace))
+    | t ∷ f ↦ if nat_le most_elements (length s.basis) then Over BasisFull else On (with_element run.algebra run.mode s job (reduction_of r))
+  ]
+
+  pub turn-over : r.ended ≡ Undefined → Turns run (λ s. Over DegreeOver)
+  turn-over e s at = turn s at ∙ ap (λ end. After s (is_over end) r.rest) e
+
+  rest-zero : (end : Ended) (rest : Polynomial) → end ≡ Nothing → end ≡ (if is_over end then Undefined else ends_at rest) → rest ≡ []
+  rest-zero end [] e h = refl
+  rest-zero Nothing (t ∷ f) e h = cc
+  rest-zero Irreducible (t ∷ f) e h = cc
+  rest-zero Undefined (t ∷ f) e h = cc
+
+  rest-some : (end : Ended) (rest : Polynomial) → end ≡ Irreducible → end ≡ (if is_over end then Undefined else ends_at rest) → (t : ℕ × List ℕ) × (f : Polynomial) × (rest ≡ t ∷ f)
+  rest-some end (t ∷ f) e h = (t, f, refl)
+  rest-some Nothing [] e h = cc
+  rest-some Irreducible [] e h = cc
+  rest-some Undefined [] e h = cc
+
+  pub turn-zero : r.ended ≡ Nothing → Turns run (λ s. On (with_entry s job (Zero job r.trace)))
+  turn-zero e s at =
+      turn s at ∙ ap (λ end. After s (is_over end) r.rest) e ∙ ap (After s false) (rest-zero r.ended r.rest e ended)
+
+  pub turn-nonzero : r.ended ≡ Irreducible → r.rest ≢ []
+  turn-nonzero e none = let some = rest-some r.ended r.rest e ended in cc
+
+  pub turn-new : r.ended ≡ Irreducible
+      → Turns run (λ s. if nat_le most_elements (length s.basis) then Over BasisFull else On (with_element run.algebra run.mode s job (reduction_of r)))
+  turn-new e s at =
+      let some = rest-some r.ended r.rest e ended in
+      turn s at ∙ ap (λ end. After s (is_over end) r.rest) e ∙ ap (After s false) some.2
+
+-- the state with a new element
+abbrev pub admits : Mode → ℕ → Job → Entry → Polynomial → State → State
+admits mode n job entry element s = record {
+  entries = s.entries ++ entry ∷ [];
+  basis = s.basis ++ element ∷ [];
+  queue = without job s.queue ++ jobs_of mode n (suc (length s.basis));
+}
+
+module _ (run : Run) (job : Job) (r : Reduction)
+    (turn : Turns run (λ s. if nat_le most_elements (length s.basis) then Over BasisFull else On (with_element run.algebra run.mode s job r))) where
+  pub turn-full : 2048 ≤ length run.basis → Turns run (λ s. Over BasisFull)
+  turn-full full s at =
+      let t : nat_le most_elements (length s.basis) ≡ true = grind (arith, nat_tests, ap length at.basis) in
+      turn s at ∙ rw t refl
+
+  pub turn-element : (scale : ℕ) (element : Polynomial) → length run.basis < 2048 → scale ≡ inverse run.algebra.p (leading_coefficient r.rest)
+      → element ≡ poly_scale run.algebra.p scale r.rest → Turns run (λ s. On (admits run.mode run.algebra.order.vars job (New job r.trace scale) element s))
+  turn-element scale element room is monic s at =
+      let t : nat_le most_elements (length s.basis) ≡ false = grind (arith, nat_tests, ap length at.basis) in
+      turn s at
+      ∙ rw t refl
+      ∙ ap On (with_element-is run.algebra run.mode s job r scale _ _ _ is refl (ap (λ g. s.basis ++ g ∷ []) monic) refl)
+
+-- ---- where the lead is after a turn
+
+-- a run of these generators at this state
+abbrev pub run_at : Algebra → List Polynomial → Mode → ℕ → Option Outcome → State → Run
+run_at A gens mode budget o s = record {
+  algebra = A;
+  generators = gens;
+  mode = mode;
+  budget = budget;
+  entries = s.entries;
+  basis = s.basis;
+  jobs = s.queue;
+  outcome = o;
+}
+
+module _ (A : Algebra) (gens : List Polynomial) (mode : Mode) (budget : ℕ) (o : Option Outcome) (s t : State) (q : JobQueue) (queue : s.queue ≡ jobs_in q.items)
+    (set : IsSet (jobs_in q.items)) (job : Job) (rest : List Job) (first : s.queue ≡ job ∷ rest) (taking : Taking) (entry : Entry) (entries : t.entries ≡ s.entries ++ entry ∷ []) where
+  entered-at : (x : State) → t.basis ≡ s.basis → t.queue ≡ jobs_in (drop 1 q.items) → IsAt (run_at A gens mode budget o s) x
+      → IsAt (run_at A gens mode budget o t) (with_entry x job entry)
+  entered-at x basis left at = record {
+    entries = ap (λ e. e ++ entry ∷ []) at.entries ∙ sym entries;
+    basis = at.basis ∙ sym basis;
+    jobs =
+        subst (SameJobs (without job x.queue)) (sym left)
+        (left_jobs taking q.items x.queue rest job set (subst (SameJobs x.queue) queue at.jobs) (sym queue ∙ first));
+  }
+
+  pub entered : t.basis ≡ s.basis → t.queue ≡ jobs_in (drop 1 q.items) → Turns (run_at A gens mode budget o s) (λ x. On (with_entry x job entry))
+      → IsCommit (run_at A gens mode budget o s) (run_at A gens mode budget o t) (Ok Added)
+  entered basis left turn = (
+    record { algebra = refl; generators = refl; mode = refl; budget = refl },
+    refl,
+    λ x at. (with_entry x job entry, turn x at, entered-at x basis left at),
+  )
+
+  admitted-at : (x : State) (element : Polynomial) → t.basis ≡ s.basis ++ element ∷ [] → SameJobs (jobs_in (drop 1 q.items) ++ jobs_of mode A.order.vars (length t.basis)) t.queue
+      → IsAt (run_at A gens mode budget o s) x → IsAt (run_at A gens mode budget o t) (admits mode A.order.vars job entry element x)
+  admitted-at x element basis more at = record {
+    entries = ap (λ e. e ++ entry ∷ []) at.entries ∙ sym entries;
+    basis = grown;
+    jobs = λ other. (
+      queued-append (without job x.queue) (jobs_of mode A.order.vars (suc (length x.basis))) other
+      ∙ ap (λ b. b || is_queued (jobs_of mode A.order.vars (suc (length x.basis))) other) (left other)
+      ∙ sym (queued-append (jobs_in (drop 1 q.items)) (jobs_of mode A.order.vars (suc (length x.basis))) other)
+      ∙ ap (λ m. is_queued (jobs_in (drop 1 q.items) ++ jobs_of mode A.order.vars m) other) count
+      ∙ more other
+    );
+  }
+    where
+      grown : x.basis ++ element ∷ [] ≡ t.basis
+      grown = ap (λ g. g ++ element ∷ []) at.basis ∙ sym basis
+
+      count : suc (length x.basis) ≡ length t.basis
+      count = sym (length-append x.basis (element ∷ []) ∙ omega arith) ∙ ap length grown
+
+      left : SameJobs (without job x.queue) (jobs_in (drop 1 q.items))
+      left = left_jobs taking q.items x.queue rest job set (subst (SameJobs x.queue) queue at.jobs) (sym queue ∙ first)
+
+  pub admitted : (element : Polynomial) → t.basis ≡ s.basis ++ element ∷ [] → SameJobs (jobs_in (drop 1 q.items) ++ jobs_of mode A.order.vars (length t.basis)) t.queue
+      → Turns (run_at A gens mode budget o s) (λ x. On (admits mode A.order.vars job entry element x))
+      → IsCommit (run_at A gens mode budget o s) (run_at A gens mode budget o t) (Ok Added)
+  admitted element basis more turn = (
+    record { algebra = refl; generators = refl; mode = refl; budget = refl },
+    refl,
+    λ x at. (admits mode A.order.vars job entry element x, turn x at, admitted-at x element basis more at),
+  )
+
+-- a run is at its own state
+pub at_itself : (A : Algebra) (gens : List Polynomial) (mode : Mode) (budget : ℕ) (o : Option Outcome) (s : State) → IsAt (run_at A gens mode budget o s) s
+at_itself A gens mode budget o s = record { entries = refl; basis = refl; jobs = λ job. refl }
+
+-- after a commit that goes on the lead is one
+pub lead-on : (A : Algebra) (gens : List Polynomial) (mode : Mode) (budget : ℕ) (o : Option Outcome) (s t : State) (q new : JobQueue) → IsAccepted A → o ≡ None
+    → IsLead (run_at A gens mode budget o s) q → IsCommit (run_at A gens mode budget o s) (run_at A gens mode budget o t) (Ok Added)
+    → new.order ≡ q.order → t.queue ≡ jobs_in new.items → Each (HasKey A gens t.basis) new.items → IsLead (run_at A gens mode budget o t) new
+lead-on A gens mode budget o s t q new ok going lead commit order queue keys =
+    let next = commit.2 s (at_itself A gens mode budget o s) in
+    let is : IsState A gens next.0 = step-keeps A ok gens lead.sorted mode budget s next.0 lead.state next.1 in
+    record {
+      sorted = lead.sorted;
+      few = lead.few;
+      state = state_same next.0 next.2 is;
+      order = order ∙ lead.order;
+      jobs = queue;
+      keys = keys;
+      over = subst (λ (x : Option Outcome). IfSome x (λ outcome. Turns (run_at A gens mode budget o t) (λ y. Over outcome))) (sym going) tt;
+    }
+  where
+    state_same : (x : State) → IsAt (run_at A gens mode budget o t) x → IsState A gens x → IsState A gens t
+    state_same x at is = record {
+      elements = subst (Each (IsElement A)) at.basis is.elements;
+      few = omega (arith, ap length at.basis, is.few);
+      jobs = subst (λ (G : List Polynomial). Each (IsNamed A gens G) t.queue) at.basis (Each-same (IsNamed A gens x.basis) x.queue t.queue at.jobs is.jobs);
+    }
+
+-- a lead that ends
+pub lead-ends : (A : Algebra) (gens : List Polynomial) (mode : Mode) (budget : ℕ) (o : Option Outcome) (s : State) (q : JobQueue) (outcome : Outcome)
+    → IsLead (run_at A gens mode budget o s) q → Turns (run_at A gens mode budget o s) (λ x. Over outcome) → IsLead (run_at A gens mode budget (Some outcome) s) q
+lead-ends A gens mode budget o s q outcome lead turn = record {
+  sorted = lead.sorted;
+  few = lead.few;
+  state = lead.state;
+  order = lead.order;
+  jobs = lead.jobs;
+  keys = lead.keys;
+  over = λ x at. turn x (record { entries = at.entries; basis = at.basis; jobs = at.jobs });
+}
+
+-- a lead at the first state
+pub lead-first : (A alg : Algebra) (gens given : List Polynomial) (mode : Mode) (budget : ℕ) (s : State) (q : JobQueue) → A ≡ alg → gens ≡ given → IsAccepted alg
+    → Each (IsPolynomial alg.p alg.order) given → length given ≤ 4096 → s.basis ≡ [] → SameJobs (seeds_from 1 given) s.queue
+    → q.order ≡ alg.order → s.queue ≡ jobs_in q.items → Each (HasKey alg given []) q.items → IsLead (run_at A gens mode budget None s) q
+lead-first A alg gens given mode budget s q made copied ok sorted few empty seeds order queue keys =
+    subst (λ (x : Algebra). IsLead (run_at x gens mode budget None s) q) (sym made) (
+      subst (λ (x : List Polynomial). IsLead (run_at alg x mode budget None s) q) (sym copied) record {
+        sorted = sorted;
+        few = few;
+        state = record {
+          elements = subst (Each (IsElement alg)) (sym empty) first.elements;
+          few = omega (arith, ap length empty);
+          jobs = subst (λ (G : List Polynomial). Each (IsNamed alg given G) s.queue) (sym empty) (Each-same (IsNamed alg given []) (seeds_from 1 given) s.queue seeds first.jobs);
+        };
+        order = order;
+        jobs = queue;
+        keys = subst (λ (G : List Polynomial). Each (HasKey alg given G) q.items) (sym empty) keys;
+        over = tt;
+      }
+    )
+  where
+    first : IsState alg given (first_state given)
+    first = first_state-is alg ok given sorted
+
+-- ---- the first job
+
+-- the law of a queue's first job: it is the least of any list of the same jobs
+abbrev pub Leading : Type 0
+Leading = (A : Algebra) (gens G : List Polynomial) (first : Keyed) (rest : List Keyed) (job : Job) (jobs : List Job)
+    → IsRising A.order (first ∷ rest) → Each (HasKey A gens G) (first ∷ rest) → SameJobs (job ∷ jobs) (jobs_in (first ∷ rest)) → least_job A gens G job jobs ≡ first.job
+
+pub first-least : Leading → (run : Run) (q : JobQueue) (k : Keyed) (rest : List Keyed) → IsLead run q → IsQueue q → q.items ≡ k ∷ rest
+    → (s : State) (a : Job) (queue : List Job) → IsAt run s → s.queue ≡ a ∷ queue → least_job run.algebra run.generators run.basis a queue ≡ k.job
+first-least leading run q k rest lead is e s a queue at h =
+    leading run.algebra run.generators run.basis k rest a queue
+    (subst (IsRising run.algebra.order) e (subst (λ (o : RowOrder). IsRising o q.items) lead.order is.rising))
+    (subst (Each (HasKey run.algebra run.generators run.basis)) e lead.keys)
+    (subst (λ jobs. SameJobs jobs (jobs_in (k ∷ rest))) h (subst (SameJobs s.queue) (lead.jobs ∙ ap jobs_in e) at.jobs))
+
+-- a job that is no pair has no witness
+pub no-witness : (G : List Polynomial) (jobs : List Job) (job : Job) → ((s : ℕ) × (job ≡ Seed s)) ⊎ ((i : ℕ) × (v : ℕ) × (job ≡ Right i v)) → None ≡ chain_witness G jobs job
+unfolding chain_witness
+no-witness G jobs (Seed s) h = refl
+no-witness G jobs (Right i v) h = refl
+no-witness G jobs (Pair i j) (inl h) = cc
+no-witness G jobs (Pair i j) (inr h) = cc

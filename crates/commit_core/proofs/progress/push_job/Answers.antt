@@ -1,0 +1,29 @@
+use Rattle.std.proofs.Common.{◌≡◌, length, sym, ap, ◌∙◌, subst}
+use Rattle.monomials.specs.Orders.{RowOrder}
+use Rattle.monomials.specs.Polynomials.{Each}
+use Rattle.word_model.specs.Jobs.{key_monomial}
+use Rattle.pair_strategy.specs.Queues.{HasKey}
+use Rattle.commit_core.proofs.Bringing.{sorted-vars, elements-vars, Each-with_item}
+use Rattle.commit_core.proofs.progress.push_job.Goals as goal
+
+pub job_key-requires-clause-in_range : goal.job_key-requires-clause-in_range
+job_key-requires-clause-in_range c =
+    let A = c.args.alg.now in
+    (A.order.vars, sorted-vars A c.args.gens.now c.requires.generators, elements-vars A c.args.basis.now.items c.requires.elements, c.requires.named.0)
+
+pub push-requires-clause-vars : goal.push-requires-clause-vars
+push-requires-clause-vars c =
+    let A = c.args.alg.now in
+    c.job_key.ensures.vars A.order.vars (sorted-vars A c.args.gens.now c.requires.generators) (elements-vars A c.args.basis.now.items c.requires.elements)
+    ∙ ap (λ (o : RowOrder). o.vars) (sym c.requires.order)
+
+pub returns-clause-keys : goal.returns-clause-keys
+returns-clause-keys c = λ keys. (
+  let A = c.args.alg.now in
+  let G = c.args.basis.now.items in
+  let mono = c.job_key.ensures.mono A (elements-vars A G c.requires.elements) in
+  let key : HasKey A c.args.gens.now G c.job_key.result =
+  subst (λ job. c.job_key.result.mono ≡ key_monomial A c.args.gens.now G job) (sym c.job_key.ensures.job) mono in
+  subst (Each (HasKey A c.args.gens.now G)) (sym c.push.ensures.items)
+  (Each-with_item (HasKey A c.args.gens.now G) c.args.queue.now.order c.job_key.result c.args.queue.now.items key keys)
+)

@@ -1,0 +1,56 @@
+-- What every lead has, and the turns that it takes.
+use Rattle.std.specs.Prelude.{◌≡◌, ◌≤◌, true, false, Bool, length, IfSome}
+use Rattle.monomials.specs.Polynomials.{Each, IsPolynomial}
+use Rattle.word_model.specs.Reduction.{Reduced as Reduction}
+use Rattle.word_model.specs.Machine.{State, Turn, Over, IsState}
+use Rattle.pair_strategy.specs.Queues.{JobQueue, jobs_in, HasKey}
+use Rattle.left_reduce.specs.Reductions.{GoneOn}
+use Rattle.left_reduce.specs.declared.reducing.Ended.{Ended}
+use Rattle.left_reduce.specs.declared.reducing.Ended.TheVariants.{Zero, Irreducible, DegreeOver}
+use Rattle.commit_core.specs.Leads.{Run, IsAt, run_step}
+use Rattle.commit_core.specs.declared.lead.Lead.TheInside.{Inside}
+
+-- the run as a state of the machine
+abbrev pub state_of : Run → State
+state_of run = record { entries = run.entries; basis = run.basis; queue = run.jobs }
+
+-- at each state that the run is at, the step of the machine is this turn
+abbrev pub Turns : Run → (State → Turn) → Type 0
+Turns run turn = (s : State) → IsAt run s → run_step run s ≡ turn s
+
+-- The generators are polynomials of the algebra, what the run has is a state of the machine, the queue has its jobs with
+-- their keys, and a run that is over ends where the machine does.
+pub record IsLead (run : Run) (queue : JobQueue) : Type 0 where
+  pub sorted : Each (IsPolynomial run.algebra.p run.algebra.order) run.generators
+  pub few : length run.generators ≤ 4096
+  pub state : IsState run.algebra run.generators (state_of run)
+  pub order : queue.order ≡ run.algebra.order
+  pub jobs : run.jobs ≡ jobs_in queue.items
+  pub keys : Each (HasKey run.algebra run.generators run.basis) queue.items
+  pub over : IfSome run.outcome (λ outcome. Turns run (λ s. Over outcome))
+
+-- the run of a lead as code keeps it
+abbrev pub kept_run : Inside → Run
+kept_run lead = record {
+  algebra = lead.algebra.value;
+  generators = lead.generators.items;
+  mode = lead.mode;
+  budget = lead.budget;
+  entries = lead.progress.entries.items;
+  basis = lead.progress.basis.items;
+  jobs = jobs_in lead.progress.queue.items;
+  outcome = lead.outcome;
+}
+
+abbrev pub IsKept : Inside → Type 0
+IsKept lead = IsLead (kept_run lead) lead.progress.queue
+
+-- whether a reduction ended before a step that is undefined
+abbrev pub is_over : Ended → Bool
+is_over Zero = false
+is_over Irreducible = false
+is_over DegreeOver = true
+
+-- a reduction that goes on from no steps, as that from the start
+abbrev pub reduction_of : GoneOn → Reduction
+reduction_of r = record { trace = r.trace; rest = r.rest; over = is_over r.ended }

@@ -12,8 +12,14 @@ ghost use Rattle.gproduct.specs.Seats.{Keeps};
 use algebra::ProductFault;
 use gproduct::{Steps, TableSeat};
 use run_records::{Finished, Journal};
+use selection::Kept;
 use std::alloc::Global;
 use std::sync::ledger::Ledger;
+
+mod finals;
+mod selection;
+#[cfg(test)]
+mod tests;
 
 /// The finished list of a run that is finished: the elements of its basis whose leading monomial no
 /// other's divides (of equal ones the earliest), ascending by leading monomials, each with its tail
@@ -33,5 +39,7 @@ pub fn reduced<L: Ledger>(
     ensures algebra { seat.new.algebra ≡ seat.old.algebra }
     ensures kept { Keeps seat.old seat.new }
 {
-    Err(ProductFault::Memory)
+    let kept = Kept::of(alloc, &journal.basis)?;
+    let finals = finals::ascending(alloc, seat, &kept, steps)?;
+    Ok(finals::split(alloc, finals)?)
 }

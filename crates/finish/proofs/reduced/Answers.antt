@@ -1,0 +1,35 @@
+use Rattle.std.proofs.Common.{◌≡◌, ◌≤◌, sym, ap, ◌∙◌, subst, arith, length, Some, None, Option}
+use Rattle.std.proofs.lemmas.Result.{err_from_is_err_and}
+use Rattle.monomials.specs.Polynomials.{Polynomial, Each}
+use Rattle.word_model.specs.Finished.{FinishedList, finished}
+use Rattle.word_model.specs.Machine.{IsElement, Journal}
+use Rattle.finish.proofs.Finishing.{met_fault, nonzero_in, kept-sorted, length-kept, finished-is, finished-none}
+use Rattle.finish.proofs.reduced.Goals as goal
+
+pub of-requires-clause-elements : goal.of-requires-clause-elements
+of-requires-clause-elements g c =
+    let A = c.args.seat.now.algebra in
+    (A.order.vars, nonzero_in A c.journal.inside.basis.items (subst (λ (J : Journal). Each (IsElement A) J.basis) (sym c.journal.view_is) c.requires.elements))
+
+pub ascending-requires-clause-sorted : goal.ascending-requires-clause-sorted
+ascending-requires-clause-sorted g c =
+    let A = c.args.seat.now.algebra in
+    kept-sorted A c.journal.inside.basis.items _ c.in_ok-kept.ensures (subst (λ (J : Journal). Each (IsElement A) J.basis) (sym c.journal.view_is) c.requires.elements)
+
+pub ascending-requires-clause-few : goal.ascending-requires-clause-few
+ascending-requires-clause-few g c =
+    let few : length c.journal.inside.basis.items ≤ 4294967295 = subst (λ (J : Journal). length J.basis ≤ 4294967295) (sym c.journal.view_is) c.requires.few in
+    omega (arith, ap length c.in_ok-kept.ensures, length-kept c.journal.inside.basis.items, few)
+
+pub returns-in_err-finals-clause-over : goal.returns-in_err-finals-clause-over
+returns-in_err-finals-clause-over g c =
+    let A = c.args.seat.now.algebra in
+    let p = err_from_is_err_and c.from_residual-in_err-finals.result c.from_residual-in_err-finals.ensures.1 in
+    λ e. subst (λ (J : Journal). finished A J.basis ≡ None) c.journal.view_is
+        (finished-none A c.journal.inside.basis.items _ c.in_ok-kept.ensures (c.in_err-finals.ensures.over (met_fault _ p.0 _ _ p.1 p.2 e)))
+
+pub returns-clause-list : goal.returns-clause-list
+returns-clause-list g c =
+    let A = c.args.seat.now.algebra in
+    subst (λ (J : Journal). finished A J.basis ≡ Some c.in_ok-split.field-0) c.journal.view_is
+    (finished-is A c.journal.inside.basis.items _ c.in_ok-finals.finals.items c.in_ok-split.field-0 c.in_ok-kept.ensures c.in_ok-finals.ensures.value c.in_ok-split.ensures)

@@ -109,7 +109,8 @@ fn write_relations(
     ensures { OnOk result (text.new.items ≡ text.old.items
         ++ relation_lines alg.now (map string_bytes names.now) 1 alg.now.order.vars) }
 {
-    for i in 1..=alg.n() as u8 {
+    let n = alg.n() as u8;
+    for i in 1..n + 1 {
         write_relations_of(alloc, text, alg, names, i)?;
     }
     Ok(())
@@ -129,7 +130,8 @@ fn write_relations_of(
     ensures { OnOk result (text.new.items ≡ text.old.items
         ++ relation_row alg.now (map string_bytes names.now) i (i + 1) (alg.now.order.vars - i)) }
 {
-    for j in i + 1..=alg.n() as u8 {
+    let n = alg.n() as u8;
+    for j in i + 1..n + 1 {
         write_relation(alloc, text, alg, names, i, j)?;
     }
     Ok(())

@@ -1,6 +1,8 @@
 //! Printed texts: polynomials, ideals, rows and rings, and polynomials read back from theirs.
 #![tactic(auto)]
 
+mod appending;
+mod polynomials;
 mod printing;
 mod reading;
 mod rings;
@@ -8,3 +10,4 @@ mod rings;
 pub use printing::{ideal_text, poly_text, rows_text};
 pub use reading::{ReadFault, read_poly};
 pub use rings::ring_text;
+

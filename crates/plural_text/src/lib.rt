@@ -1,6 +1,7 @@
 //! Printed texts: polynomials, ideals, rows and rings, and polynomials read back from theirs.
 #![tactic(auto)]
 
+pub mod laws;
 mod printing;
 mod reading;
 mod rings;

@@ -1,0 +1,136 @@
+-- Texts of terms in a row are read as them.
+use Rattle.std.proofs.Common.{◌≡◌, ◌≢◌, ℕ, zero, suc, ◌+◌, ◌<◌, ◌≤◌, ◌^◌, ◌==◌, max, not, List, [], ◌∷◌, ◌++◌, codes, length, take, drop, Bool, true, false, Option, Some, None, refl, sym, ◌∙◌, ap, subst, arith, inl, inr, append_assoc}
+use Rattle.std.specs.List.{list_all, position_or_len}
+use Rattle.std.proofs.lemmas.Bool.{cases_Bool}
+use Rattle.std.proofs.lemmas.List.{append-nil, take_at, drop_at, length-append}
+use Rattle.std.specs.declared.cmp.Ordering.{Ordering}
+use Rattle.monomials.specs.Monomials.{Monomial, degree, one}
+use Rattle.monomials.specs.Orders.{RowOrder, order_cmp}
+use Rattle.monomials.specs.Polynomials.{Polynomial, Each, HasVars, IsCanonical, IsPolynomial, poly_degree}
+use Rattle.word_model.specs.Texts.{term_text, with_sign, later_texts, polynomial_text}
+use Rattle.plural_text.specs.Names.{AreNames}
+use Rattle.plural_text.specs.Spelling.{Spells}
+use Rattle.plural_text.specs.Readings.{is_sign, first_len, read_term, PolyTerm}
+use Rattle.plural_text.proofs.Characters.{none_found, found_behind}
+use Rattle.plural_text.proofs.Terms.{ReadsAs, IsTerm, zero_reads, term_reads}
+
+-- the terms of a polynomial of degree at most 4095
+are_terms : (p n : ℕ) (cmp : Monomial → Monomial → Ordering) (f : Polynomial) → IsCanonical cmp p f → HasVars n f → poly_degree f ≤ 4095
+    → Each (IsTerm p n) f
+are_terms p n cmp [] canonical vars small = tt
+are_terms p n cmp (t ∷ f) canonical vars small =
+    let both : max (degree t.1) (poly_degree f) ≤ 4095 = small in (
+      record { nonzero = canonical.0; below = canonical.1; vars = vars.0; small = omega arith },
+      are_terms p n cmp f canonical.3 vars.1 (omega arith),
+    )
+
+pub spelled_terms : (p : ℕ) (order : RowOrder) (names : List (List ℕ)) (bytes : List ℕ) (f : Polynomial) → Spells p order names bytes f
+    → Each (IsTerm p order.vars) f
+spelled_terms p order names bytes f h = are_terms p order.vars (order_cmp order.rows) f h.polynomial.canonical h.polynomial.vars h.degree
+
+-- a later term begins with a sign
+sign_first : (text : List ℕ) → (b : ℕ) × (behind : List ℕ) × (with_sign text ≡ b ∷ behind) × (is_sign b ≡ true)
+sign_first [] = (43, [], refl, refl)
+sign_first (b ∷ text) =
+    elim (cases_Bool (b == 45)) [
+      | inl minus ↦ (b, text, rw minus refl, rw minus (elim (cases_Bool (b == 43)) [ inl plus ↦ rw plus refl | inr other ↦ rw other refl ]))
+      | inr other ↦ (43, b ∷ text, rw other refl, refl)
+    ]
+
+module _ (p : ℕ) (names : List (List ℕ)) where
+  -- What is left of a text where these terms are left: a text of the first of them, and the later ones.
+  pub record IsRestOf (rest : List ℕ) (t : PolyTerm) (f : Polynomial) : Type 0 where
+    pub text : List ℕ
+    pub reads : ReadsAs p names text t
+    pub whole : rest ≡ text ++ later_texts p names f
+
+  -- the same, also where no term is left
+  abbrev pub IsRest : List ℕ → Polynomial → Type 0
+  IsRest rest [] = rest ≡ []
+  IsRest rest (t ∷ f) = IsRestOf rest t f
+
+  -- the first term ends where the later ones begin
+  first_ends : (text : List ℕ) (f : Polynomial) → list_all (λ b. not (is_sign b)) text ≡ true
+      → position_or_len is_sign (text ++ later_texts p names f) ≡ length text
+  first_ends text [] h = ap (position_or_len is_sign) (append-nil text) ∙ none_found is_sign text h
+  first_ends text (t ∷ f) h =
+      let sign = sign_first (term_text p names t) in
+      ap (λ later. position_or_len is_sign (text ++ (later ++ later_texts p names f))) sign.2
+      ∙ found_behind is_sign text sign.0 (sign.1 ++ later_texts p names f) h sign.3
+
+  first_len_is : (text : List ℕ) (f : Polynomial) → 1 ≤ length text → list_all (λ b. not (is_sign b)) (drop 1 text) ≡ true
+      → first_len (text ++ later_texts p names f) ≡ length text
+  first_len_is [] f some h = absurd (omega arith)
+  first_len_is (b ∷ text) f some h = omega (arith, first_ends text f h)
+
+  module _ (are : AreNames (length names) names) (fits : p < 2 ^ 64) where
+    -- the later terms are a rest
+    later_rest : (f : Polynomial) → Each (IsTerm p (length names)) f → IsRest (later_texts p names f) f
+    later_rest [] h = refl
+    later_rest (t ∷ f) h = record { text = with_sign (term_text p names t); reads = (term_reads p names are fits t h.0).1; whole = refl }
+
+    -- all terms are a rest
+    pub whole_rest : (t : PolyTerm) (f : Polynomial) → IsTerm p (length names) t → IsRest (polynomial_text p names (t ∷ f)) (t ∷ f)
+    whole_rest t f h = record { text = term_text p names t; reads = (term_reads p names are fits t h).0; whole = refl }
+
+    -- the first of the terms left is read, and leaves the others
+    pub record StepsTo (rest : List ℕ) (t : PolyTerm) (f : Polynomial) : Type 0 where
+      pub some : 1 ≤ length rest
+      pub read : read_term p names (take (first_len rest) rest) ≡ Some t
+      pub others : IsRest (drop (first_len rest) rest) f
+
+    pub next_rest : (rest : List ℕ) (t : PolyTerm) (f : Polynomial) → IsRest rest (t ∷ f) → Each (IsTerm p (length names)) f → StepsTo rest t f
+    next_rest rest t f h terms =
+        let later : List ℕ = later_texts p names f in
+        let size : first_len rest ≡ length h.text = ap first_len h.whole ∙ first_len_is h.text f h.reads.some h.reads.unsigned in
+        let front : take (first_len rest) rest ≡ h.text =
+        ap (λ n. take n rest) size ∙ (ap (take (length h.text)) h.whole ∙ take_at h.text later (length h.text) refl) in
+        let behind : drop (first_len rest) rest ≡ later =
+        ap (λ n. drop n rest) size ∙ (ap (drop (length h.text)) h.whole ∙ drop_at h.text later (length h.text) refl) in
+        record {
+          some = subst (λ bytes. 1 ≤ length bytes) (sym h.whole) (omega (arith, h.reads.some, length-append h.text later));
+          read = ap (read_term p names) front ∙ h.reads.read;
+          others = subst (λ bytes. IsRest bytes f) (sym behind) (later_rest f terms);
+        }
+
+    -- terms with one text are the same
+    one_rest : (f g : Polynomial) (rest : List ℕ) → Each (IsTerm p (length names)) f → Each (IsTerm p (length names)) g
+        → IsRest rest f → IsRest rest g → f ≡ g
+    one_rest [] [] rest hf hg rf rg = refl
+    one_rest [] (u ∷ g) rest hf hg rf rg = absurd (omega (arith, (next_rest rest u g rg hg.1).some, ap length rf))
+    one_rest (t ∷ f) [] rest hf hg rf rg = absurd (omega (arith, (next_rest rest t f rf hf.1).some, ap length rg))
+    one_rest (t ∷ f) (u ∷ g) rest hf hg rf rg =
+        let first = next_rest rest t f rf hf.1 in
+        let other = next_rest rest u g rg hg.1 in
+        let heads : ◌≡◌ {A = Option PolyTerm} (Some t) (Some u) = sym first.read ∙ other.read in
+        let tails = one_rest f g (drop (first_len rest) rest) hf.1 hg.1 first.others other.others in cc
+
+    -- 0 is the text of no nonzero polynomial
+    zero_alone : 0 < p → (t : PolyTerm) (f : Polynomial) → Each (IsTerm p (length names)) (t ∷ f) → polynomial_text p names (t ∷ f) ≡ codes "0" → ⊥
+    zero_alone some t f h same =
+        let zero_term : PolyTerm = (0, one (length names)) in
+        let rest : IsRest (codes "0") (zero_term ∷ []) = record { text = codes "0"; reads = zero_reads p names are fits some; whole = refl } in
+        let first = next_rest (codes "0") zero_term [] rest tt in
+        let other = next_rest (codes "0") t f (subst (λ bytes. IsRest bytes (t ∷ f)) same (whole_rest t f h.0)) h.1 in
+        let heads : ◌≡◌ {A = Option PolyTerm} (Some zero_term) (Some t) = sym first.read ∙ other.read in
+        let terms : zero_term ≡ t = cc in
+        let number : 0 ≡ t.0 = ap (λ (z : PolyTerm). z.0) terms in omega (arith, h.0.nonzero)
+
+    -- one text, one polynomial
+    pub one_polynomial : 0 < p → (f g : Polynomial) → Each (IsTerm p (length names)) f → Each (IsTerm p (length names)) g
+        → polynomial_text p names f ≡ polynomial_text p names g → f ≡ g
+    one_polynomial some [] [] hf hg same = refl
+    one_polynomial some [] (u ∷ g) hf hg same = absurd (zero_alone some u g hg (sym same))
+    one_polynomial some (t ∷ f) [] hf hg same = absurd (zero_alone some t f hf same)
+    one_polynomial some (t ∷ f) (u ∷ g) hf hg same =
+        one_rest (t ∷ f) (u ∷ g) (polynomial_text p names (t ∷ f)) hf hg (whole_rest t f hf.0)
+        (subst (λ bytes. IsRest bytes (u ∷ g)) (sym same) (whole_rest u g hg.0))
+
+-- the law of `texts_decide`
+pub spelled_once : (p : ℕ) (order : RowOrder) (names : List (List ℕ)) (bytes : List ℕ) (f g : Polynomial) → 0 < p → p < 2 ^ 64
+    → AreNames order.vars names → Spells p order names bytes f → Spells p order names bytes g → f ≡ g
+spelled_once p order names bytes f g some fits are hf hg =
+    let same : AreNames (length names) names = subst (λ n. AreNames n names) (sym are.count) are in
+    one_polynomial p names same fits some f g
+    (subst (λ n. Each (IsTerm p n) f) (sym are.count) (spelled_terms p order names bytes f hf))
+    (subst (λ n. Each (IsTerm p n) g) (sym are.count) (spelled_terms p order names bytes g hg)) (hf.text ∙ sym hg.text)

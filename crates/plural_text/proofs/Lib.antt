@@ -4,3 +4,4 @@ pub mod Powers
 pub mod Products
 pub mod Terms
 pub mod Rests
+pub mod Steps

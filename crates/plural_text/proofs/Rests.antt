@@ -134,3 +134,82 @@ spelled_once p order names bytes f g some fits are hf hg =
     one_polynomial p names same fits some f g
     (subst (λ n. Each (IsTerm p n) f) (sym are.count) (spelled_terms p order names bytes f hf))
     (subst (λ n. Each (IsTerm p n) g) (sym are.count) (spelled_terms p order names bytes g hg)) (hf.text ∙ sym hg.text)
+
+-- ---- a text that is read term by term
+
+-- A text of a polynomial other than 0, of which the terms `done` are read and `rest` is left.
+abbrev pub IsReading : ℕ → RowOrder → List (List ℕ) → List ℕ → Polynomial → List ℕ → Type 0
+IsReading p order names bytes done rest =
+    (f : Polynomial) → Spells p order names bytes f → f ≢ [] → (g : Polynomial) × (f ≡ done ++ g) × IsRest p names rest g
+
+module _ (p : ℕ) (order : RowOrder) (names : List (List ℕ)) (fits : p < 2 ^ 64) (named : AreNames order.vars names) where
+  are_names : AreNames (length names) names
+  are_names = subst (λ n. AreNames n names) (sym named.count) named
+
+  terms_of : (bytes : List ℕ) (f : Polynomial) → Spells p order names bytes f → Each (IsTerm p (length names)) f
+  terms_of bytes f h = subst (λ n. Each (IsTerm p n) f) (sym named.count) (spelled_terms p order names bytes f h)
+
+  -- nothing is read yet
+  begins_by : (bytes : List ℕ) (f : Polynomial) → Each (IsTerm p (length names)) f → polynomial_text p names f ≡ bytes → f ≢ []
+      → IsRest p names bytes f
+  begins_by bytes [] terms text some = absurd (some refl)
+  begins_by bytes (t ∷ f) terms text some =
+      subst (λ z. IsRest p names z (t ∷ f)) text (whole_rest p names are_names fits t f terms.0)
+
+  pub reading_begins : (bytes : List ℕ) → IsReading p order names bytes [] bytes
+  reading_begins bytes f h some = (f, refl, begins_by bytes f (terms_of bytes f h) h.text some)
+
+  -- the terms behind others
+  later_terms : (done g : Polynomial) → Each (IsTerm p (length names)) (done ++ g) → Each (IsTerm p (length names)) g
+  later_terms [] g h = h
+  later_terms (t ∷ done) g h = later_terms done g h.1
+
+  -- the first of the terms left, by the rest of the text
+  goes_on : (rest : List ℕ) (g : Polynomial) → 1 ≤ length rest → IsRest p names rest g → Each (IsTerm p (length names)) g
+      → (t : PolyTerm) × (later : Polynomial) × (g ≡ t ∷ later) × (StepsTo p names are_names fits rest t later)
+  goes_on rest [] some left terms = absurd (omega (arith, ap length left))
+  goes_on rest (t ∷ g) some left terms = (t, g, refl, next_rest p names are_names fits rest t g left terms.1)
+
+  -- one more term is read
+  pub reading_goes_on : (bytes rest : List ℕ) (done : Polynomial) (t : PolyTerm) → 1 ≤ length rest
+      → read_term p names (take (first_len rest) rest) ≡ Some t → IsReading p order names bytes done rest
+      → IsReading p order names bytes (done ++ t ∷ []) (drop (first_len rest) rest)
+  reading_goes_on bytes rest done t some read reading f h nonzero =
+      let left = reading f h nonzero in
+      let terms : Each (IsTerm p (length names)) left.0 =
+      later_terms done left.0 (subst (λ z. Each (IsTerm p (length names)) z) left.1 (terms_of bytes f h)) in
+      let next = goes_on rest left.0 some left.2 terms in
+      let heads : ◌≡◌ {A = Option PolyTerm} (Some next.0) (Some t) = sym next.3.read ∙ read in
+      let same : next.0 ≡ t = cc in (
+        next.1,
+        left.1 ∙ (ap (λ z. done ++ z) (next.2 ∙ ap (λ (u : PolyTerm). u ∷ next.1) same) ∙ sym (append_assoc done (t ∷ []) next.1)),
+        next.3.others,
+      )
+
+  -- where no term is read, the text is of no polynomial other than 0
+  nothing_left : (bytes rest : List ℕ) (done f : Polynomial) → 1 ≤ length rest → read_term p names (take (first_len rest) rest) ≡ None
+      → IsReading p order names bytes done rest → Spells p order names bytes f → f ≢ [] → ⊥
+  nothing_left bytes rest done f some unread reading h nonzero =
+      let left = reading f h nonzero in
+      let terms : Each (IsTerm p (length names)) left.0 =
+      later_terms done left.0 (subst (λ z. Each (IsTerm p (length names)) z) left.1 (terms_of bytes f h)) in
+      let next = goes_on rest left.0 some left.2 terms in
+      let heads : ◌≡◌ {A = Option PolyTerm} (Some next.0) None = sym next.3.read ∙ unread in cc
+
+  pub reading_stops : (bytes rest : List ℕ) (done f : Polynomial) → 1 ≤ length rest → read_term p names (take (first_len rest) rest) ≡ None
+      → IsReading p order names bytes done rest → Spells p order names bytes f → f ≡ []
+  reading_stops bytes rest done [] some unread reading h = refl
+  reading_stops bytes rest done (t ∷ f) some unread reading h =
+      absurd (nothing_left bytes rest done (t ∷ f) some unread reading h (λ e. cc))
+
+  -- where nothing is left, all terms are read
+  all_read : (done f g : Polynomial) → f ≡ done ++ g → IsRest p names [] g → Each (IsTerm p (length names)) g → done ≡ f
+  all_read done f [] whole left terms = sym (whole ∙ append-nil done)
+  all_read done f (t ∷ g) whole left terms = absurd (omega (arith, (next_rest p names are_names fits [] t g left terms.1).some))
+
+  pub reading_ends : (bytes : List ℕ) (done f : Polynomial) → IsReading p order names bytes done [] → Spells p order names bytes f → f ≢ []
+      → done ≡ f
+  reading_ends bytes done f reading h nonzero =
+      let left = reading f h nonzero in
+      all_read done f left.0 left.1 left.2
+      (later_terms done left.0 (subst (λ z. Each (IsTerm p (length names)) z) left.1 (terms_of bytes f h)))

@@ -1,6 +1,6 @@
 //! Polynomials read back from their texts.
 
-ghost use Rattle.std.specs.Prelude.{◌≡◌, ◌≢◌, ◌<◌, ◌≤◌, ◌^◌, [], ◌∷◌, ◌++◌, length, map, position, bytes_eq, string_bytes, IfOk, OnOk, IfSome, Err};
+ghost use Rattle.std.specs.Prelude.{◌≡◌, ◌≢◌, ◌<◌, ◌≤◌, ◌^◌, [], ◌∷◌, ◌++◌, length, map, string_bytes, IfOk, OnOk, IfSome, Err};
 ghost use Rattle.std.specs.List.{position_or_len};
 ghost use Rattle.std.specs.Option.{option_map};
 ghost use Rattle.monomials.specs.Monomials.{degree};
@@ -239,9 +239,9 @@ fn read_power(names: &[String], text: &[u8]) -> Option<Power>
     ensures place { IfSome result (λ w. w.place < length names.now) }
     ensures exponent { IfSome result (λ w. w.exponent ≤ 4095) }
 {
-    let end = name_len(text);
-    let exponent = read_exponent(&text[end..])?;
-    let place = read_name(names, &text[..end])?;
+    let (name, behind) = text.split_at(name_len(text));
+    let exponent = read_exponent(behind)?;
+    let place = read_name(names, name)?;
     Some(Power { place, exponent })
 }
 
@@ -267,7 +267,6 @@ fn read_exponent(text: &[u8]) -> Option<u32>
 // The place of a name among the names.
 fn read_name(names: &[String], text: &[u8]) -> Option<usize>
     ensures value { result ≡ read_name (map string_bytes names.now) text.now }
-    ensures raw { result ≡ position (λ name. bytes_eq (string_bytes name) text.now) names.now }
     ensures within { IfSome result (λ place. place < length names.now) }
 {
     names.iter().position(|name| name.as_bytes() == text)

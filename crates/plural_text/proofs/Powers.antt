@@ -1,17 +1,16 @@
 -- The texts of powers are read as their variables and exponents.
-use Rattle.std.proofs.Common.{◌≡◌, ◌≢◌, ℕ, zero, suc, ◌+◌, ◌-◌, ◌<◌, ◌≤◌, ◌^◌, nat_le, not, nat_lt, List, [], ◌∷◌, ◌++◌, codes, length, take, drop, Bool, true, false, Option, Some, None, refl, sym, ◌∙◌, ap, subst, arith, inl, inr, append_assoc}
-use Rattle.std.specs.Prelude.{if◌then◌else◌, option_and_then, bytes_eq, position}
+use Rattle.std.proofs.Common.{◌≡◌, ◌≢◌, ℕ, ◌<◌, ◌≤◌, nat_le, not, List, [], ◌∷◌, ◌++◌, length, take, drop, true, false, Some, refl, sym, ◌∙◌, ap, subst, arith, inl, inr, append_assoc}
+use Rattle.std.specs.Prelude.{bytes_eq}
 use Rattle.std.specs.List.{list_all, position_or_len}
-use Rattle.std.specs.Option.{option_map}
 use Rattle.std.specs.Fmt.{decimal}
-use Rattle.std.proofs.lemmas.Bool.{cases_Bool, le-leb, leb-true, lt-ltb}
+use Rattle.std.proofs.lemmas.Bool.{cases_Bool, leb-true, lt-ltb}
 use Rattle.std.proofs.lemmas.List.{take_at, drop_at, append-nil, take_all, drop_all, length-append}
 use Rattle.std.proofs.lemmas.Slice.Eq.{bytes_eq-Decides}
 use Rattle.std.proofs.lemmas.Bool.Decides.{nat_tests}
 use Rattle.monomials.specs.Polynomials.{Each}
 use Rattle.word_model.specs.Texts.{power_text}
 use Rattle.plural_text.specs.Names.{IsName, AreDifferent, is_name_byte, is_digit}
-use Rattle.plural_text.specs.Readings.{is_caret, is_number, read_number, read_exponent, read_name, read_power, read_power_at, Power}
+use Rattle.plural_text.specs.Readings.{is_caret, is_number, read_number, read_name, read_power}
 use Rattle.plural_text.proofs.Characters.{is_power_byte, all_weaker, all_append, none_found, found_behind, name_in_power, digit_in_name, name_no_caret, name_bytes, name_is_no_number}
 use Rattle.plural_text.proofs.Numbers.{digits_of_decimal, read_number-decimal}
 

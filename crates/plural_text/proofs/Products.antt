@@ -1,21 +1,21 @@
 -- The texts of products are read as their terms.
-use Rattle.std.proofs.Common.{◌≡◌, ◌≢◌, ℕ, zero, suc, ◌+◌, ◌-◌, ◌*◌, ◌%◌, ◌<◌, ◌≤◌, ◌^◌, ◌==◌, nat_le, not, List, [], ◌∷◌, ◌++◌, length, slice_index_or, replicate, sum, Bool, true, false, Option, Some, None, refl, sym, ◌∙◌, ap, subst, arith, inl, inr, append_assoc}
+use Rattle.std.proofs.Common.{◌≡◌, ℕ, zero, suc, ◌+◌, ◌-◌, ◌*◌, ◌%◌, ◌<◌, ◌≤◌, ◌^◌, ◌==◌, not, List, [], ◌∷◌, ◌++◌, length, slice_index_or, replicate, sum, true, false, Option, Some, refl, sym, ◌∙◌, ap, subst, arith, inl, inr, append_assoc}
 use Rattle.std.proofs.Math.Nat.{mod-eq_of_lt}
-use Rattle.std.specs.Prelude.{if◌then◌else◌, option_and_then}
+use Rattle.std.specs.Prelude.{option_and_then}
 use Rattle.std.specs.List.{list_all, slice_split, join_with_byte, All}
 use Rattle.std.specs.Option.{option_map}
 use Rattle.std.specs.Fmt.{decimal}
-use Rattle.std.proofs.lemmas.Bool.{cases_Bool, le-leb, leb-true, and_parts, false≢true}
-use Rattle.std.proofs.lemmas.List.{append-nil, length-append, length-replicate}
+use Rattle.std.proofs.lemmas.Bool.{cases_Bool, le-leb, false≢true}
+use Rattle.std.proofs.lemmas.List.{length-append, length-replicate}
 use Rattle.std.proofs.lemmas.List.Sums.{sum_by-append, sum_by-cons}
 use Rattle.std.proofs.lemmas.List.Folds.{list_all_at}
 use Rattle.std.proofs.lemmas.List.Splits.{slice_split_none, slice_split_at}
 use Rattle.monomials.specs.Monomials.{Monomial, degree, plus, one}
 use Rattle.monomials.specs.Polynomials.{Each}
 use Rattle.monomials.proofs.Exponents.{sum-zeros}
-use Rattle.word_model.specs.Texts.{power_text, power_texts, monomial_text}
+use Rattle.word_model.specs.Texts.{power_text, power_texts}
 use Rattle.plural_text.specs.Names.{IsName, AreDifferent, AreNames, is_digit}
-use Rattle.plural_text.specs.Readings.{is_number, read_number, read_name, read_power, power_of, times_power, times_factor, times_factors, read_product, PolyTerm}
+use Rattle.plural_text.specs.Readings.{read_number, read_name, times_power, times_factor, times_factors, read_product, PolyTerm}
 use Rattle.plural_text.proofs.Characters.{is_power_byte, is_product_byte, all_weaker, all_append, power_in_product, power_no_star}
 use Rattle.plural_text.proofs.Numbers.{digits_of_decimal, read_number-decimal, decimal_is_number}
 use Rattle.plural_text.proofs.Powers.{read_name_at, read_power_text, power_is_no_number, digit_in_power, power_bytes}

@@ -1,12 +1,14 @@
 -- Texts of terms in a row are read as them.
-use Rattle.std.proofs.Common.{◌≡◌, ◌≢◌, ℕ, zero, suc, ◌+◌, ◌<◌, ◌≤◌, ◌^◌, ◌==◌, max, not, List, [], ◌∷◌, ◌++◌, codes, length, take, drop, Bool, true, false, Option, Some, None, refl, sym, ◌∙◌, ap, subst, arith, inl, inr, append_assoc}
+use Rattle.std.proofs.Common.{◌≡◌, ◌≢◌, ℕ, ◌<◌, ◌≤◌, ◌^◌, ◌==◌, max, not, List, [], ◌∷◌, ◌++◌, codes, length, take, drop, true, Option, Some, None, refl, sym, ◌∙◌, ap, subst, arith, inl, inr, append_assoc}
 use Rattle.std.specs.List.{list_all, position_or_len}
 use Rattle.std.proofs.lemmas.Bool.{cases_Bool}
 use Rattle.std.proofs.lemmas.List.{append-nil, take_at, drop_at, length-append}
 use Rattle.std.specs.declared.cmp.Ordering.{Ordering}
 use Rattle.monomials.specs.Monomials.{Monomial, degree, one}
 use Rattle.monomials.specs.Orders.{RowOrder, order_cmp}
-use Rattle.monomials.specs.Polynomials.{Polynomial, Each, HasVars, IsCanonical, IsPolynomial, poly_degree}
+use Rattle.monomials.specs.Polynomials.{Polynomial, Each, HasVars, IsCanonical, IsPolynomial, poly_degree, from_terms}
+use Rattle.monomials.proofs.OrderLaws.{order_cmp_total, order_cmp_tied}
+use Rattle.monomials.proofs.Canonical.{from_terms-canonical}
 use Rattle.word_model.specs.Texts.{term_text, with_sign, later_texts, polynomial_text}
 use Rattle.plural_text.specs.Names.{AreNames}
 use Rattle.plural_text.specs.Spelling.{Spells}
@@ -213,3 +215,17 @@ module _ (p : ℕ) (order : RowOrder) (names : List (List ℕ)) (fits : p < 2 ^ 
       let left = reading f h nonzero in
       all_read done f left.0 left.1 left.2
       (later_terms done left.0 (subst (λ z. Each (IsTerm p (length names)) z) left.1 (terms_of bytes f h)))
+
+-- the polynomial with the terms of a canonical one is that one
+spelled_sorted : (p : ℕ) (order : RowOrder) (f : Polynomial) → IsPolynomial p order f → from_terms (order_cmp order.rows) p f ≡ f
+spelled_sorted p order [] h = refl
+spelled_sorted p order (t ∷ f) h =
+    from_terms-canonical (order_cmp order.rows) (order_cmp_total order.rows) (order_cmp_tied order.rows) p (omega (arith, h.canonical.1)) (t ∷ f)
+    h.canonical
+
+pub spelled_from_terms : (p q : ℕ) (order sorting : RowOrder) (names : List (List ℕ)) (bytes : List ℕ) (f terms r : Polynomial) → q ≡ p
+    → sorting ≡ order → Spells p order names bytes f → terms ≡ f → r ≡ from_terms (order_cmp sorting.rows) q terms → r ≡ f
+spelled_from_terms p q order sorting names bytes f terms r same_field same_order h same_terms is =
+    is ∙ (ap (λ (z : Polynomial). from_terms (order_cmp sorting.rows) q z) same_terms
+    ∙ (ap (λ (z : ℕ). from_terms (order_cmp sorting.rows) z f) same_field
+    ∙ (ap (λ (z : RowOrder). from_terms (order_cmp z.rows) p f) same_order ∙ spelled_sorted p order f h.polynomial)))

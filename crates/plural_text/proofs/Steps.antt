@@ -1,5 +1,5 @@
 -- Steps of the code that reads, as equations of lists.
-use Rattle.std.proofs.Common.{◌≡◌, ℕ, zero, suc, ◌+◌, ◌-◌, ◌<◌, ◌≤◌, List, [], ◌∷◌, ◌++◌, length, map, take, drop, get_or, replicate, sum, Bool, true, false, Option, Some, None, refl, sym, ◌∙◌, ap, subst, arith, inl, inr}
+use Rattle.std.proofs.Common.{◌≡◌, ℕ, zero, suc, ◌+◌, ◌-◌, ◌<◌, ◌≤◌, List, [], ◌∷◌, ◌++◌, length, map, take, drop, get_or, replicate, Bool, Option, refl, sym, ◌∙◌, ap, arith, inl, inr}
 use Rattle.std.proofs.Math.ListN.{set}
 use Rattle.std.specs.Prelude.{option_and_then, position}
 use Rattle.std.specs.List.{position_or_len}
@@ -7,6 +7,7 @@ use Rattle.std.proofs.lemmas.Bool.{cases_Bool}
 use Rattle.std.proofs.lemmas.List.{at_drop_more, length-map, length-append, length-replicate, take-replicate}
 use Rattle.std.proofs.lemmas.List.Sums.{sum_by-append, sum_by-cons}
 use Rattle.monomials.specs.Monomials.{Monomial, degree, plus}
+use Rattle.monomials.specs.Polynomials.{Each}
 use Rattle.monomials.proofs.Exponents.{length-zip_with, degree-plus, sum-zeros}
 use Rattle.plural_text.specs.Readings.{PolyTerm, power_of, times_factor, times_factors}
 
@@ -58,3 +59,8 @@ length-times m k e h = length-zip_with (λ x y. x + y) m (power_of (length m) (k
 pub degree-times : (m : Monomial) (k e : ℕ) → k < length m → degree (plus m (power_of (length m) (k, e))) ≡ degree m + e
 degree-times m k e h =
     degree-plus m (power_of (length m) (k, e)) (sym (length-power_of (length m) k e h)) ∙ ap (λ n. degree m + n) (degree-power_of (length m) k e)
+
+-- what each of a list has, each has with one more
+pub each_more : {X : Type 0} (P : X → Type 0) (xs : List X) (x : X) → Each P xs → P x → Each P (xs ++ x ∷ [])
+each_more P [] x h last = (last, tt)
+each_more P (y ∷ xs) x h last = (h.0, each_more P xs x h.1 last)

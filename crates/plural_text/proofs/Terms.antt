@@ -1,22 +1,20 @@
 -- The texts of terms are read as them.
-use Rattle.std.proofs.Common.{◌≡◌, ◌≢◌, ℕ, zero, suc, ◌+◌, ◌-◌, ◌*◌, ◌/◌, ◌%◌, ◌<◌, ◌≤◌, ◌^◌, ◌==◌, nat_le, nat_lt, not, List, [], ◌∷◌, ◌++◌, codes, length, drop, replicate, sum, Bool, true, false, cond, Option, Some, None, refl, sym, ◌∙◌, ap, subst, arith, inl, inr, append_assoc, ℤ, pos, negsuc, ◌-ℤ◌}
+use Rattle.std.proofs.Common.{◌≡◌, ℕ, zero, suc, ◌-◌, ◌/◌, ◌%◌, ◌<◌, ◌≤◌, ◌^◌, ◌==◌, nat_le, not, List, [], ◌∷◌, ◌++◌, codes, length, drop, sum, true, false, Some, refl, sym, ◌∙◌, ap, subst, arith, inl, inr, append_assoc}
 use Rattle.std.proofs.Math.Nat.{mod-eq_of_lt}
-use Rattle.std.specs.Prelude.{if◌then◌else◌}
 use Rattle.std.specs.List.{list_all, join_with_byte}
 use Rattle.std.specs.Option.{option_map}
-use Rattle.std.specs.Fmt.{decimal, signed_decimal}
-use Rattle.std.proofs.lemmas.Bool.{cases_Bool, eqb-true, lt-ltb, leb-true, and_parts}
+use Rattle.std.specs.Fmt.{decimal}
+use Rattle.std.proofs.lemmas.Bool.{cases_Bool, eqb-true, lt-ltb, and_parts}
 use Rattle.std.proofs.lemmas.Bool.Decides.{nat_tests}
 use Rattle.std.proofs.lemmas.Fmt.{decimal_nonempty, decimal_digit}
 use Rattle.std.proofs.lemmas.List.{append-nil, length-append, length-replicate}
 use Rattle.std.proofs.lemmas.List.Sums.{sum_by-cons}
-use Rattle.prime_field.specs.Modular.{symmetric}
 use Rattle.monomials.specs.Monomials.{Monomial, degree, one}
 use Rattle.monomials.specs.Polynomials.{Each}
 use Rattle.word_model.specs.Texts.{number_text, power_text, power_texts, monomial_text, term_text, with_sign}
 use Rattle.monomials.proofs.Exponents.{sum-zeros}
 use Rattle.plural_text.specs.Names.{AreNames, IsName, is_digit}
-use Rattle.plural_text.specs.Readings.{is_sign, read_product, read_signed, read_term, PolyTerm}
+use Rattle.plural_text.specs.Readings.{is_sign, read_product, read_term, PolyTerm}
 use Rattle.plural_text.proofs.Characters.{is_power_byte, is_product_byte, all_weaker, other_byte, product_no_sign}
 use Rattle.plural_text.proofs.Numbers.{digits_of_decimal}
 use Rattle.plural_text.proofs.Powers.{digit_in_power, some_power}

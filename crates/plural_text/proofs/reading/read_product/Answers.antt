@@ -1,11 +1,11 @@
-use Rattle.std.proofs.Common.{◌≡◌, ℕ, ◌+◌, ◌<◌, ◌==◌, List, length, get_or, map, string_bytes, drop, Option, Some, None, refl, sym, ◌∙◌, ap, rules, arith, tests}
+use Rattle.std.proofs.Common.{ℕ, ◌==◌, List, length, map, string_bytes, drop, Some, None, sym, ◌∙◌, ap, rules, arith, tests}
 use Rattle.std.specs.List.{slice_split}
 use Rattle.std.specs.Option.{option_map}
 use Rattle.std.proofs.lemmas.List.{length_push, at_drop_all}
 use Rattle.std.proofs.lemmas.Iterator.Splits.{YieldsList-from_slice_split}
 use Rattle.std.proofs.lemmas.Iterator.Consumers.{YieldsList-at, YieldsList-turn, YieldsList-end}
 use Rattle.gpoly.specs.Terms.{pair_of}
-use Rattle.plural_text.specs.Readings.{read_product, times_factors, times_factor}
+use Rattle.plural_text.specs.Readings.{times_factors}
 use Rattle.plural_text.proofs.Steps.{times_factors_more}
 use Rattle.plural_text.proofs.reading.read_product.Goals as goal
 

@@ -35,11 +35,11 @@ read_digits-decimal most n small =
     decimal_by_steps (λ n ds. n ≤ most → read_digits most 0 ds ≡ Some n)
     (λ n below within. read_digit most 0 n below (omega arith) ∙ ap (λ m. Some m) (omega arith))
     (λ n ds above front within.
-      let rest : n % 10 < 10 = omega arith in
-      let whole : 10 * (n / 10) + n % 10 ≡ n = omega arith in
-      read_digits-append most 0 ds ((48 + n % 10) ∷ [])
-      ∙ (ap (option_and_then (λ m. read_digits most m ((48 + n % 10) ∷ []))) (front (omega arith))
-      ∙ (read_digit most (n / 10) (n % 10) rest (omega arith) ∙ ap (λ m. Some m) whole)))
+    let rest : n % 10 < 10 = omega arith in
+    let whole : 10 * (n / 10) + n % 10 ≡ n = omega arith in
+    read_digits-append most 0 ds ((48 + n % 10) ∷ [])
+    ∙ (ap (option_and_then (λ m. read_digits most m ((48 + n % 10) ∷ []))) (front (omega arith))
+    ∙ (read_digit most (n / 10) (n % 10) rest (omega arith) ∙ ap (λ m. Some m) whole)))
     n small
 
 pub digits_of_decimal : (n : ℕ) → n < 2 ^ 64 → list_all is_digit (decimal n) ≡ true

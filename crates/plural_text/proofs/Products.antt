@@ -27,7 +27,7 @@ stars_none : (text : List ℕ) → list_all is_power_byte text ≡ true → All 
 stars_none text h k d within =
     elim (cases_Bool (slice_index_or text k d == 42)) [
       | inl star ↦ absurd (false≢true (sym (list_all_at (λ b. not (b == 42)) text k d within (ap not star))
-        ∙ all_weaker is_power_byte (λ b. not (b == 42)) text power_no_star h))
+          ∙ all_weaker is_power_byte (λ b. not (b == 42)) text power_no_star h))
       | inr other ↦ other
     ]
 

@@ -120,13 +120,13 @@ module _ (p : ℕ) (names : List (List ℕ)) where
         (ap (list_all is_product_byte) (sym (joined a)) ∙ factors_bytes a m below small)
         (ap (read_product p names) (sym (joined a)) ∙ read_number_factors p names are a m below fits is.vars small))
         (λ some.
-          let less : p - a < p = omega arith in
-          let back : p - (p - a) ≡ a = omega arith in
-          let value : (p - (p - a)) % p ≡ a = ap (λ n. n % p) back ∙ mod-eq_of_lt below in
-          minus_reads (decimal (p - a) ++ behind) (p - a) m t
-          (ap (list_all is_product_byte) (sym (joined (p - a))) ∙ factors_bytes (p - a) m less small)
-          (ap (read_product p names) (sym (joined (p - a))) ∙ read_number_factors p names are (p - a) m less fits is.vars small)
-          (ap (λ (n : ℕ). (n, m)) value))
+        let less : p - a < p = omega arith in
+        let back : p - (p - a) ≡ a = omega arith in
+        let value : (p - (p - a)) % p ≡ a = ap (λ n. n % p) back ∙ mod-eq_of_lt below in
+        minus_reads (decimal (p - a) ++ behind) (p - a) m t
+        (ap (list_all is_product_byte) (sym (joined (p - a))) ∙ factors_bytes (p - a) m less small)
+        (ap (read_product p names) (sym (joined (p - a))) ∙ read_number_factors p names are (p - a) m less fits is.vars small)
+        (ap (λ (n : ℕ). (n, m)) value))
 
     -- the text of 0
     pub zero_reads : 0 < p → ReadsAs p names (codes "0") (0, one (length names))

@@ -293,3 +293,6 @@ fn read_number(text: &[u8], most: u32) -> Option<u32>
     }
     Some(number)
 }
+
+#[cfg(test)]
+mod tests;

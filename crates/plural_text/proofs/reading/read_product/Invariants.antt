@@ -12,5 +12,5 @@ invariant-loop-factor l = record {
   vars : length l.term.mono ≡ length l.names;
   small : degree l.term.mono ≤ 4095;
   value : read_product l.field (map string_bytes l.names) l.text
-    ≡ times_factors l.field (map string_bytes l.names) (pair_of l.term) (drop (length l.yielded) (slice_split (λ b. b == 42) l.text));
+      ≡ times_factors l.field (map string_bytes l.names) (pair_of l.term) (drop (length l.yielded) (slice_split (λ b. b == 42) l.text));
 }

@@ -13,7 +13,7 @@ invariant-loop-rest l = record {
   vars : HasVars l.alg.order.vars (pairs_of l.terms.items);
   small : Each (λ t. degree t.1 ≤ 4095) (pairs_of l.terms.items);
   read : (f : Polynomial) → Spells l.alg.p l.alg.order (map string_bytes l.names) l.bytes f → f ≢ []
-    → (g : Polynomial) × (f ≡ pairs_of l.terms.items ++ g) × IsRest l.alg.p (map string_bytes l.names) l.rest g;
+      → (g : Polynomial) × (f ≡ pairs_of l.terms.items ++ g) × IsRest l.alg.p (map string_bytes l.names) l.rest g;
 }
 
 abbrev pub decreases-loop-rest : goal.decreases-loop-rest

@@ -3,6 +3,7 @@
 
 mod appending;
 mod polynomials;
+pub mod laws;
 mod printing;
 mod reading;
 mod rings;

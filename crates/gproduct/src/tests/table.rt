@@ -1,7 +1,6 @@
 //! Values of places, seats at one table, and products of powers, worked by rewriting words outside.
 
-ghost use Rattle.std.specs.Prelude.{◌≡◌, ◌≤◌, ◌<◌, ◌+◌, IfSome, IfOk};
-ghost use Rattle.word_model.specs.Words.{Algebra as GAlgebra};
+ghost use Rattle.std.specs.Prelude.{◌≡◌, IfOk};
 ghost use Rattle.gproduct.specs.Places.{IsPlace};
 
 use super::algebras::{SL2, algebra, named, text_of, three};
@@ -21,16 +20,17 @@ fn numbers(alloc: Global, text: &str) -> Result<Vec<u16>, Fail> {
     Ok(numbers)
 }
 
-// The place with these variables, of three, and these exponents.
-fn place_of(alloc: Global, text: &str) -> Result<Place, Fail>
-    ensures { IfOk result (λ place. (A : GAlgebra) → A.order.vars ≡ 3 → IsPlace A place) }
+// The place of the algebra with these variables and these exponents.
+fn place_of(alloc: Global, algebra: &Algebra, text: &str) -> Result<Place, Fail>
+    ensures { IfOk result (λ place. IsPlace algebra.now place) }
 {
     let numbers = numbers(alloc, text)?;
     let [i, j, a, b] = numbers.as_slice() else {
         return Err("a place has four numbers".into());
     };
     let (i, j, a, b) = (*i, *j, *a, *b);
-    if 1 <= i && i < j && j <= 3 && 1 <= a && a <= 16 && 1 <= b && b <= 16 {
+    let in_order = 1 <= i && i < j && usize::from(j) <= algebra.n();
+    if in_order && 1 <= a && a <= 16 && 1 <= b && b <= 16 {
         let (i, j, a, b) = (i as u8, j as u8, a as u8, b as u8);
         Ok(Place { i, j, a, b })
     } else {
@@ -95,7 +95,7 @@ fn value_text(alloc: Global, algebra: &Algebra, place: Place) -> Result<String, 
 // Whether the place has this value in the named algebra, computed alone and learned.
 fn has_value(alloc: Global, name: &str, place: &str, want: &str) -> Result<bool, Fail> {
     let algebra = named(alloc, name)?;
-    let place = place_of(alloc, place)?;
+    let place = place_of(alloc, &algebra, place)?;
     let alone = value_text(alloc, &algebra, place)?;
     let learned = learned_text(alloc, &algebra, place)?;
     Ok(alone.as_str() == want && learned.as_str() == want)
@@ -130,7 +130,7 @@ fn share_a_cell(alloc: Global, algebra: &Algebra, place: Place) -> Result<bool, 
 #[test]
 fn shared_cell_seen(rt: HostRuntime) -> Result<(), Fail> {
     let algebra = algebra(rt.alloc(), SL2)?;
-    let place = place_of(rt.alloc(), "1 2 2 2")?;
+    let place = place_of(rt.alloc(), &algebra, "1 2 2 2")?;
     assert!(rt; share_a_cell(rt.alloc(), &algebra, place)?);
     Ok(())
 }

@@ -13,6 +13,8 @@ mod seat;
 mod steps;
 mod swap;
 mod table;
+#[cfg(test)]
+mod tests;
 
 pub use place::{Place, value_of};
 pub use products::{right_times, term_times, times};

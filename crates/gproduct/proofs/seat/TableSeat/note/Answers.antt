@@ -12,7 +12,7 @@ returns-then-is_free-clause-kept c place known =
     let free_inside : slice_index_or c.self.inside.seen.items c.cell-index.result (record { cell = None }) ≡ record { cell = None } = rw (← c.deref.ensures.value) free in
     let had = subst (λ (s : Seat). Knows s place) (sym c.self.view_is) known in
     rw c.fill_slot.ensures
-    (still_known (λ o. option_map (λ f. f.now.place) o.cell) (record { cell = None }) refl c.self.inside.seen.items c.cell-index.result (record { cell = Some c.args.found }) _ place free_inside had)
+    (still_known (λ o. option_map (λ f. f.now.place) o.cell) (record { cell = None }) (refl {a = None}) c.self.inside.seen.items c.cell-index.result (record { cell = Some c.args.found }) _ place free_inside had)
 
 pub returns-then-is_free-clause-noted : goal.returns-then-is_free-clause-noted
 returns-then-is_free-clause-noted c _ =
@@ -22,4 +22,4 @@ returns-then-is_free-clause-noted c _ =
     c.cell-index.ensures ∙ ap (λ n. cell_of n c.args.found.now.place) (c.n.ensures.value ∙ ap (λ (A : Algebra). A.order.vars) (c.algebra.ensures ∙ ap (λ (s : Seat). s.algebra) (sym c.self.view_is))) in
     rw c.fill_slot.ensures
     (ap (λ k. slice_index_or (map (λ o. option_map (λ f. f.now.place) o.cell) (slice_set c.self.inside.seen.items c.cell-index.result (record { cell = Some c.args.found }))) k None) (sym at)
-    ∙ now_known (λ o. option_map (λ f. f.now.place) o.cell) (record { cell = None }) refl c.self.inside.seen.items c.cell-index.result (record { cell = Some c.args.found }) few_inside)
+    ∙ now_known (λ o. option_map (λ f. f.now.place) o.cell) (record { cell = None }) (refl {a = None}) c.self.inside.seen.items c.cell-index.result (record { cell = Some c.args.found }) few_inside)

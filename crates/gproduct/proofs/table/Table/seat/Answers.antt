@@ -14,7 +14,7 @@ pub returns : goal.returns
 returns c = record {
   algebra = refl;
   nothing = λ place known.
-      let none = none_known (λ o. option_map (λ f. f.now.place) o.cell) (record { cell = None }) refl c.loop.seen.items c.loop.invariant (cell_of c.args.self.now.order.vars place) in
+      let none = none_known (λ o. option_map (λ f. f.now.place) o.cell) (record { cell = None }) (refl {a = None}) c.loop.seen.items c.loop.invariant (cell_of c.args.self.now.order.vars place) in
       let both : None ≡ Some place = sym none ∙ known in
       search rules;
 }

@@ -2,3 +2,5 @@ mod SortedWords
 mod Stacks
 mod Swaps
 mod MultipliedOut
+mod Stages
+mod Sums

@@ -116,7 +116,7 @@ module _ (A : Algebra) (l : ℕ) where
 -- ---- swaps
 
 -- a monomial weighs what its sorted word does
-word_weight-sorted : (A : Algebra) (φ : Monomial → ℕ) (m : Monomial) → length m ≡ A.order.vars → word_weight A φ (sorted_word m) ≡ φ m
+pub word_weight-sorted : (A : Algebra) (φ : Monomial → ℕ) (m : Monomial) → length m ≡ A.order.vars → word_weight A φ (sorted_word m) ≡ φ m
 word_weight-sorted A φ m vars =
     ap (weigh φ) (normal_form-sorted A (sorted_word m) (leftmost_descent-sorted_word m)) ∙ omega (arith, ap φ (monomial_of-sorted_word A.order.vars m vars))
 

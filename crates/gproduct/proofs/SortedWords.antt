@@ -106,6 +106,16 @@ module _ (n v k : ℕ) (m : Monomial) (low : 1 ≤ v) (high : v ≤ n) (vars : l
   pub sorted_word-first : ((q : ℕ) → q + 1 < v → get_or m q 0 ≡ 0) → sorted_word m ≡ replicate k v ++ sorted_word (minus m (power n v k))
   sorted_word-first first = word_from-first 1 (v - 1) (n - v) k v m (omega arith) (omega arith) within (λ q l. first q (omega arith))
 
+-- the word of a power
+word_from-power : (i u z k v : ℕ) → v ≡ u + i → word_from i (at u k z) ≡ replicate k v
+word_from-power i zero z k v is =
+    let this : i ≡ v = omega arith in
+    ap (λ w. replicate k i ++ w) (word_from-nothing (suc i) (replicate z 0) (get_or-zeros z)) ∙ append-nil (replicate k i) ∙ ap (replicate k) this
+word_from-power i (suc u) z k v is = word_from-power (suc i) u z k v (omega arith)
+
+pub sorted_word-power : (n v k : ℕ) → 1 ≤ v → sorted_word (power n v k) ≡ replicate k v
+sorted_word-power n v k low = word_from-power 1 (v - 1) (n - v) k v (omega arith)
+
 pub length-power : (n v k : ℕ) → 1 ≤ v → v ≤ n → length (power n v k) ≡ n
 length-power n v k low high =
     length-append (replicate (v - 1) 0) (k ∷ replicate (n - v) 0) ∙ omega (arith, length-replicate {A = ℕ} (v - 1) 0, length-replicate {A = ℕ} (n - v) 0)

@@ -2,3 +2,4 @@ pub mod Places
 pub mod Seats
 pub mod Counting
 pub mod Factors
+pub mod Parts

@@ -4,6 +4,7 @@
 
 mod front;
 mod multiplying;
+mod parts;
 mod pending;
 mod place;
 mod powers;

@@ -1,0 +1,15 @@
+use Rattle.std.proofs.Common.{◌≡◌, ◌++◌, ◌∷◌, [], length}
+use Rattle.monomials.specs.Polynomials.{IsPolynomial}
+use Rattle.gproduct.specs.Parts.{sum_of, AreSorted}
+use Rattle.gproduct.proofs.Sums.{last_two}
+use Rattle.gproduct.proofs.parts.add_part.Given as goal
+
+abbrev pub invariant-loop-part : goal.invariant-loop-part
+invariant-loop-part l = record {
+  parts : AreSorted l.field l.order l.parts.items;
+  part : IsPolynomial l.field l.order l.part;
+  sum : sum_of l.field l.order (l.parts.items ++ l.part ∷ []) ≡ sum_of l.field l.order (l.fn.parts.items ++ l.fn.part ∷ []);
+}
+
+abbrev pub decreases-loop-part : goal.decreases-loop-part
+decreases-loop-part l = length l.parts.items

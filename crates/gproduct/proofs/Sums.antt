@@ -19,17 +19,15 @@ use Rattle.gproduct.specs.Parts.{sum_of, AreSorted}
 
 module _ (p : ℕ) (pos : 0 < p) (order : RowOrder) where
   -- the weight of all together
-  weigh_all : (Monomial → ℕ) → List Polynomial → ℕ
+  abbrev weigh_all : (Monomial → ℕ) → List Polynomial → ℕ
   weigh_all φ [] = 0
   weigh_all φ (f ∷ fs) = weigh φ f + weigh_all φ fs
 
   weigh_all-append : (φ : Monomial → ℕ) (fs gs : List Polynomial) → weigh_all φ (fs ++ gs) ≡ weigh_all φ fs + weigh_all φ gs
-  unfolding weigh_all
   weigh_all-append φ [] gs = omega arith
   weigh_all-append φ (f ∷ fs) gs = omega (arith, weigh_all-append φ fs gs)
 
   weigh-sum_of : (φ : Monomial → ℕ) (fs : List Polynomial) → Same p (weigh φ (sum_of p order fs)) (weigh_all φ fs)
-  unfolding weigh_all
   weigh-sum_of φ [] = refl
   weigh-sum_of φ (f ∷ fs) =
       weigh-poly_add (order_cmp order.rows) (order_cmp_tied order.rows) p φ f (sum_of p order fs) ∙ same_add p (weigh φ f) _ _ _ refl (weigh-sum_of φ fs)
@@ -45,7 +43,6 @@ module _ (p : ℕ) (pos : 0 < p) (order : RowOrder) where
   -- the last two may be added up
   pub last_two : (fs : List Polynomial) (f g : Polynomial) → AreSorted p order fs → IsPolynomial p order f → IsPolynomial p order g
       → sum_of p order (fs ++ poly_add (order_cmp order.rows) p f g ∷ []) ≡ sum_of p order ((fs ++ f ∷ []) ++ g ∷ [])
-  unfolding weigh_all
   last_two fs f g hs hf hg =
       let sum : Polynomial = poly_add (order_cmp order.rows) p f g in
       let one : AreSorted p order (fs ++ sum ∷ []) = Each-append _ fs (sum ∷ []) hs (IsPolynomial-poly_add p order pos f g hf hg, tt) in
@@ -64,7 +61,6 @@ module _ (p : ℕ) (pos : 0 < p) (order : RowOrder) where
   -- the sum of all but the last, and the last
   pub but_last : (fs : List Polynomial) (f g : Polynomial) → AreSorted p order fs → IsPolynomial p order f → IsPolynomial p order g
       → poly_add (order_cmp order.rows) p (sum_of p order fs) (poly_add (order_cmp order.rows) p f g) ≡ poly_add (order_cmp order.rows) p (sum_of p order (fs ++ f ∷ [])) g
-  unfolding weigh_all
   but_last fs f g hs hf hg =
       let sum : Polynomial = poly_add (order_cmp order.rows) p f g in
       let rest : IsPolynomial p order (sum_of p order fs) = IsPolynomial-sum_of fs hs in
@@ -103,7 +99,6 @@ product_more A above_one parts part g ts i t inside is hs hp sum this =
     ∙ sym (weigh-product A φ (pairs_of (take (i + 1) ts)) g))
   where
     weighs : (φ : Monomial → ℕ) → Same A.p (weigh φ (sum_of A.p A.order (parts ++ part ∷ []))) (weigh φ (sum_of A.p A.order parts) + weigh φ part)
-    unfolding weigh_all
     weighs φ =
         let pos : 0 < A.p = omega arith in
         let split : weigh_all A.p pos A.order φ (parts ++ part ∷ []) ≡ weigh_all A.p pos A.order φ parts + weigh φ part =

@@ -4,12 +4,12 @@ use Rattle.gproduct.specs.Parts.{sum_of, AreSorted}
 use Rattle.gproduct.proofs.Sums.{last_two}
 use Rattle.gproduct.proofs.parts.add_part.Given as goal
 
-abbrev pub invariant-loop-part : goal.invariant-loop-part
-invariant-loop-part l = record {
+abbrev pub invariant-loop-last : goal.invariant-loop-last
+invariant-loop-last l = record {
   parts : AreSorted l.field l.order l.parts.items;
   part : IsPolynomial l.field l.order l.part;
   sum : sum_of l.field l.order (l.parts.items ++ l.part ∷ []) ≡ sum_of l.field l.order (l.fn.parts.items ++ l.fn.part ∷ []);
 }
 
-abbrev pub decreases-loop-part : goal.decreases-loop-part
-decreases-loop-part l = length l.parts.items
+abbrev pub decreases-loop-last : goal.decreases-loop-last
+decreases-loop-last l = length l.parts.items

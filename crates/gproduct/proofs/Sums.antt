@@ -1,9 +1,10 @@
 -- Sums of many polynomials, and products with one term more on the left.
-use Rattle.std.proofs.Common.{◌≡◌, ℕ, suc, ◌+◌, ◌*◌, ◌<◌, ◌≤◌, List, [], ◌∷◌, ◌++◌, length, take, get_or, refl, sym, ap, ◌∙◌, subst, arith}
+use Rattle.std.proofs.Common.{◌≡◌, ℕ, zero, suc, false, ◌+◌, ◌*◌, ◌<◌, ◌≤◌, List, [], ◌∷◌, ◌++◌, length, take, get_or, refl, sym, ap, ◌∙◌, subst, arith}
+use Rattle.std.proofs.lemmas.Bool.Decides.{nat_tests}
 use Rattle.std.proofs.lemmas.List.{map-append, take_more}
-use Rattle.monomials.specs.Monomials.{Monomial}
+use Rattle.monomials.specs.Monomials.{Monomial, degree}
 use Rattle.monomials.specs.Orders.{RowOrder, order_cmp}
-use Rattle.monomials.specs.Polynomials.{Polynomial, Each, IsPolynomial, poly_add}
+use Rattle.monomials.specs.Polynomials.{Polynomial, Each, IsPolynomial, poly_add, poly_degree}
 use Rattle.monomials.proofs.Modulo.{Same, same_refl, same_add}
 use Rattle.monomials.proofs.Weights.{weigh, weigh-append, weigh-poly_add}
 use Rattle.monomials.proofs.Canonical.{same_poly}
@@ -13,7 +14,7 @@ use Rattle.monomials.proofs.Keys.{Each-append, Each-first, Each-second}
 use Rattle.gpoly.specs.declared.Term.{Term}
 use Rattle.gpoly.specs.Terms.{pair_of, pairs_of}
 use Rattle.word_model.specs.Words.{Algebra}
-use Rattle.word_model.specs.Products.{product}
+use Rattle.word_model.specs.Products.{product, in_reach}
 use Rattle.word_model.proofs.NormalForms.{row_weight, weigh-product, product_is_polynomial, same_weights}
 use Rattle.gproduct.specs.Parts.{sum_of, AreSorted}
 
@@ -106,3 +107,20 @@ product_more A above_one parts part g ts i t inside is hs hp sum this =
         weigh-sum_of A.p pos A.order φ (parts ++ part ∷ [])
         ∙ same_refl A.p _ _ split
         ∙ same_add A.p _ _ (weigh φ part) (weigh φ part) (sym (weigh-sum_of A.p pos A.order φ parts)) refl
+
+-- the product of nothing
+pub nothing_times : (A : Algebra) (g : Polynomial) → product A [] g ≡ []
+unfolding product
+nothing_times A g = refl
+
+-- the degree of a term at an index
+pub degree_at : (ts : List Term) (i : ℕ) (d : Term) → i < length ts → degree (get_or ts i d).mono ≤ poly_degree (pairs_of ts)
+degree_at [] i d l = absurd (omega arith)
+degree_at (t ∷ ts) zero d l = omega arith
+degree_at (t ∷ ts) (suc i) d l = omega (arith, degree_at ts i d (omega arith))
+
+-- small degrees that add up to more than the limit are those of nonzero polynomials out of reach
+pub out_of_reach : (f g : Polynomial) → poly_degree f ≤ 4095 → poly_degree g ≤ 4095 → 4095 < poly_degree f + poly_degree g → in_reach f g ≡ false
+out_of_reach [] g hf hg over = absurd (omega arith)
+out_of_reach (t ∷ f) [] hf hg over = absurd (omega arith)
+out_of_reach (t ∷ f) (u ∷ g) hf hg over = grind (arith, nat_tests)

@@ -4,11 +4,10 @@ use Rattle.word_model.specs.Products.{product}
 use Rattle.gproduct.specs.Seats.{Keeps}
 use Rattle.gproduct.specs.Factors.{factor_count}
 use Rattle.gproduct.specs.Parts.{sum_of, AreSorted}
-use Rattle.gproduct.proofs.Sums.{product_more}
 use Rattle.gproduct.proofs.products.times_within.Given as goal
 
 abbrev pub invariant-loop-term : goal.invariant-loop-term
-invariant-loop-term l = record {
+invariant-loop-term g l = record {
   counted : factor_count l.pending.open.items ≡ length l.pending.factors.items;
   empty : l.pending.open.items ≡ [];
   parts : AreSorted l.fn.seat.algebra.p l.fn.seat.algebra.order l.parts.items;

@@ -1,21 +1,20 @@
 -- Products with a term, variable by variable, and their words.
-use Rattle.std.proofs.Common.{◌≡◌, ℕ, zero, suc, ◌+◌, ◌-◌, ◌*◌, ◌<◌, ◌≤◌, List, [], ◌∷◌, ◌++◌, map, length, take, drop, get_or, replicate, refl, sym, ap, ◌∙◌, subst, arith, append_assoc, append-nil, length-append}
+use Rattle.std.proofs.Common.{◌≡◌, ℕ, suc, ◌+◌, ◌-◌, ◌*◌, ◌<◌, ◌≤◌, [], ◌∷◌, ◌++◌, map, length, take, drop, get_or, replicate, refl, sym, ap, ◌∙◌, subst, arith, append_assoc, append-nil, length-append}
 use Rattle.std.proofs.lemmas.List.{take_more, take_all, take-append-drop, length-replicate, length-take-le}
 use Rattle.monomials.specs.Monomials.{Monomial, degree}
-use Rattle.monomials.specs.Polynomials.{Polynomial, Each, HasNumbers, HasVars, IsPolynomial, poly_scale, poly_degree}
-use Rattle.monomials.proofs.Modulo.{Same, same_refl, same_add, same_mul}
+use Rattle.monomials.specs.Polynomials.{Polynomial, HasNumbers, HasVars, IsPolynomial, poly_scale, poly_degree}
+use Rattle.monomials.proofs.Modulo.{Same, same_refl}
 use Rattle.monomials.proofs.Weights.{weigh, weigh_alike_on, weigh-poly_scale}
-use Rattle.monomials.proofs.Operations.{IsPolynomial-poly_scale, HasNumbers-canonical}
+use Rattle.monomials.proofs.Operations.{IsPolynomial-poly_scale}
 use Rattle.monomials.proofs.Keys.{Each-append, Each-first, Each-weaker, EachKey-poly_scale}
-use Rattle.monomials.specs.Orders.{order_cmp}
 use Rattle.word_model.specs.Words.{Algebra, Word, IsWord, word_from, sorted_word, word_value}
 use Rattle.word_model.specs.Conditions.{IsAccepted}
 use Rattle.word_model.specs.Products.{product}
-use Rattle.word_model.proofs.Letters.{Each-map, Each-both, IsWord-sorted_word, length-word_from}
+use Rattle.word_model.proofs.Letters.{Each-map, IsWord-sorted_word, length-word_from}
 use Rattle.word_model.proofs.NormalForms.{word_weight, row_weight, weigh-word_value, weigh-product, word_value_is_polynomial, product_is_polynomial, same_weights}
 use Rattle.word_model.proofs.Degrees.{HasDegrees-poly_degree, poly_degree-le, poly_degree-product}
 use Rattle.word_model.proofs.Associativity.{last_part}
-use Rattle.gproduct.specs.Factors.{power, stacked_word, ProductSum, words_of, IsReady}
+use Rattle.gproduct.specs.Factors.{power, ProductSum, words_of, IsReady}
 use Rattle.gproduct.proofs.SortedWords.{length-power, sorted_word-power}
 use Rattle.gproduct.proofs.MultipliedOut.{word_weight-sorted}
 

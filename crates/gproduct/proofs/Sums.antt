@@ -1,16 +1,16 @@
 -- Sums of many polynomials, and products with one term more on the left.
-use Rattle.std.proofs.Common.{◌≡◌, ℕ, zero, suc, false, ◌+◌, ◌*◌, ◌<◌, ◌≤◌, List, [], ◌∷◌, ◌++◌, length, take, get_or, refl, sym, ap, ◌∙◌, subst, arith}
+use Rattle.std.proofs.Common.{◌≡◌, ℕ, zero, suc, false, ◌+◌, ◌<◌, ◌≤◌, List, [], ◌∷◌, ◌++◌, length, take, get_or, refl, sym, ap, ◌∙◌, arith}
 use Rattle.std.proofs.lemmas.Bool.Decides.{nat_tests}
 use Rattle.std.proofs.lemmas.List.{map-append, take_more}
 use Rattle.monomials.specs.Monomials.{Monomial, degree}
 use Rattle.monomials.specs.Orders.{RowOrder, order_cmp}
-use Rattle.monomials.specs.Polynomials.{Polynomial, Each, IsPolynomial, poly_add, poly_degree}
+use Rattle.monomials.specs.Polynomials.{Polynomial, IsPolynomial, poly_add, poly_degree}
 use Rattle.monomials.proofs.Modulo.{Same, same_refl, same_add}
 use Rattle.monomials.proofs.Weights.{weigh, weigh-append, weigh-poly_add}
 use Rattle.monomials.proofs.Canonical.{same_poly}
 use Rattle.monomials.proofs.OrderLaws.{order_cmp_total, order_cmp_tied}
 use Rattle.monomials.proofs.Operations.{IsPolynomial-poly_add}
-use Rattle.monomials.proofs.Keys.{Each-append, Each-first, Each-second}
+use Rattle.monomials.proofs.Keys.{Each-append}
 use Rattle.gpoly.specs.declared.Term.{Term}
 use Rattle.gpoly.specs.Terms.{pair_of, pairs_of}
 use Rattle.word_model.specs.Words.{Algebra}

@@ -1,4 +1,4 @@
-use Rattle.std.proofs.Common.{◌≡◌, ◌<◌, ◌∙◌, ◌++◌, ◌∷◌, [], sym, ap, subst, arith}
+use Rattle.std.proofs.Common.{◌∙◌, ◌++◌, ◌∷◌, [], sym, ap, subst, arith}
 use Rattle.monomials.proofs.Keys.{Each-first, Each-second}
 use Rattle.gproduct.specs.Parts.{sum_of, AreSorted}
 use Rattle.gproduct.proofs.Sums.{last_two}

@@ -1,10 +1,9 @@
-use Rattle.std.proofs.Common.{◌≡◌, ℕ, ◌+◌, ◌<◌, ◌≤◌, ◌∙◌, ◌++◌, ◌∷◌, [], length, sym, ap, subst, arith}
+use Rattle.std.proofs.Common.{◌≡◌, ℕ, ◌<◌, ◌∙◌, ◌++◌, ◌∷◌, [], length, sym, ap, subst, arith}
 use Rattle.std.proofs.Math.ListN.{length-replicate}
 use Rattle.std.proofs.lemmas.Result.{IfOk-weaker}
-use Rattle.monomials.specs.Monomials.{Monomial, degree}
+use Rattle.monomials.specs.Monomials.{degree}
 use Rattle.monomials.specs.Orders.{order_cmp}
 use Rattle.monomials.proofs.Operations.{HasNumbers-canonical}
-use Rattle.gpoly.specs.Terms.{pairs_of}
 use Rattle.word_model.specs.Words.{Algebra, word_value}
 use Rattle.word_model.specs.Products.{product}
 use Rattle.word_model.proofs.Letters.{length-word_from}

@@ -1,4 +1,4 @@
-use Rattle.std.proofs.Common.{◌≡◌, ◌∙◌, ◌∷◌, [], sym, ap}
+use Rattle.std.proofs.Common.{◌∙◌, ◌∷◌, [], sym, ap}
 use Rattle.word_model.specs.Products.{product}
 use Rattle.word_model.proofs.TermProducts.{product-zero}
 use Rattle.gproduct.proofs.products.term_times.Goals as goal

@@ -1,5 +1,4 @@
-use Rattle.std.proofs.Common.{◌≡◌, ℕ, ◌+◌, ◌<◌, ◌≤◌, ◌∙◌, ◌++◌, ◌∷◌, [], length, get_or, refl, sym, ap, subst, subst₂, arith}
-use Rattle.monomials.specs.Monomials.{Monomial, degree}
+use Rattle.std.proofs.Common.{◌≡◌, ◌∙◌, ◌∷◌, [], refl, sym, ap, subst, subst₂, arith}
 use Rattle.monomials.specs.Orders.{order_cmp}
 use Rattle.monomials.specs.Polynomials.{HasNumbers, IsPolynomial, poly_scale}
 use Rattle.monomials.proofs.Operations.{HasNumbers-canonical}

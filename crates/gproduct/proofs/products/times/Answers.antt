@@ -1,5 +1,4 @@
-use Rattle.std.proofs.Common.{◌+◌, ◌<◌, ◌≤◌, arith}
-use Rattle.monomials.specs.Polynomials.{poly_degree}
+use Rattle.std.proofs.Common.{arith}
 use Rattle.gproduct.proofs.Sums.{out_of_reach}
 use Rattle.gproduct.proofs.products.times.Goals as goal
 

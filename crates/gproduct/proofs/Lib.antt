@@ -4,3 +4,7 @@ mod Swaps
 mod MultipliedOut
 mod Stages
 mod Sums
+pub mod TwoPowers
+pub mod PlainValue
+pub mod ClosedTerms
+pub mod Known

@@ -1,4 +1,5 @@
 pub mod Places
+pub mod Swaps
 pub mod Seats
 pub mod Counting
 pub mod Factors

@@ -3,6 +3,7 @@
 #![tactic(auto)]
 
 mod front;
+mod kinds;
 mod multiplying;
 mod parts;
 mod pending;
@@ -11,7 +12,10 @@ mod powers;
 mod products;
 mod seat;
 mod steps;
+mod swap;
 mod table;
+#[cfg(test)]
+mod tests;
 
 pub use place::{Place, value_of};
 pub use products::{right_times, term_times, times};

@@ -1,12 +1,23 @@
 //! The product of two powers in the wrong order, as terms.
 
-ghost use Rattle.std.specs.Prelude.{◌≡◌, ◌<◌, ◌≤◌, ◌+◌, ◌++◌, replicate, IfOk};
+ghost use Rattle.std.specs.Prelude.{◌≡◌, ◌<◌, ◌≤◌, ◌+◌, ◌*◌, ◌%◌, ◌^◌, ◌∷◌, [], ◌++◌, replicate, IsTrue, IfOk, OnOk, IfSome};
+ghost use Rattle.monomials.specs.Polynomials.{cons_nonzero};
 ghost use Rattle.gpoly.specs.Terms.{pairs_of};
 ghost use Rattle.word_model.specs.Words.{normal_form};
-ghost use Rattle.gproduct.specs.Seats.{Keeps};
+ghost use Rattle.closed_forms.specs.Forms.{closed_form};
+ghost use Rattle.closed_forms.specs.Kinds.{IsProper, HasKind};
+ghost use Rattle.gproduct.specs.Places.{IsPlace, place_value};
+ghost use Rattle.gproduct.specs.Seats.{Knows, Keeps};
+ghost use Rattle.gproduct.specs.Swaps.{IsSwap, swap_word};
 
-use crate::seat::TableSeat;
-use gpoly::Term;
+use crate::place::{MOST_EXPONENT, Place};
+use crate::seat::{Learned, TableSeat};
+use crate::swap::Swap;
+use algebra::Algebra;
+use closed_forms::PairKind;
+use gpoly::{GPoly, Term};
+use monomials::Expo;
+use prime_field::Field;
 use std::alloc::{AllocError, Global};
 
 /// The product x_j^a' x_i^b' for exponents a' up to a and b' up to b, as great as a closed form or a
@@ -32,5 +43,145 @@ pub(crate) fn power_terms(
     ensures algebra { seat.new.algebra ≡ seat.old.algebra }
     ensures kept { Keeps seat.old seat.new }
 {
-    Err(AllocError)
+    let swap = Swap { i, j, a, b };
+    if let Some(kind) = seat.kind(i, j)
+        && formula_terms(alloc, seat.algebra(), &kind, swap, terms)?
+    {
+        return Ok((a, b));
+    }
+    let place = cut(swap);
+    place_terms(alloc, seat, place, terms)?;
+    Ok((u16::from(place.a), u16::from(place.b)))
+}
+
+// The place with the same variables, and with exponents up to those of a place.
+fn cut(swap: Swap) -> Place
+    requires a_some { 1 ≤ swap.a }
+    requires b_some { 1 ≤ swap.b }
+    ensures i { result.i ≡ swap.i }
+    ensures j { result.j ≡ swap.j }
+    ensures a_some { 1 ≤ result.a }
+    ensures a_within { result.a ≤ swap.a }
+    ensures a_small { result.a ≤ 16 }
+    ensures b_some { 1 ≤ result.b }
+    ensures b_within { result.b ≤ swap.b }
+    ensures b_small { result.b ≤ 16 }
+{
+    Place {
+        i: swap.i,
+        j: swap.j,
+        a: swap.a.min(MOST_EXPONENT) as u8,
+        b: swap.b.min(MOST_EXPONENT) as u8,
+    }
+}
+
+// Puts the product's terms into `terms`, where that takes no table: it is one term, or the exponents
+// are above those of a place. Whether it did.
+fn formula_terms(
+    alloc: Global,
+    alg: &Algebra,
+    kind: &PairKind,
+    swap: Swap,
+    terms: &mut Vec<Term>,
+) -> Result<bool, AllocError>
+    requires swap { IsSwap alg.now swap }
+    requires kind { HasKind alg.now swap.i swap.j kind.now }
+    ensures { IfOk result (λ done. IsTrue done → pairs_of terms.new.items ≡ normal_form alg.now (swap_word swap)) }
+{
+    let n = alg.n();
+    if let Some(number) = number_of_one(alg.field(), kind, swap.a, swap.b) {
+        put_one(terms, number, swap.monomial(n, swap.b, swap.a))?;
+        return Ok(true);
+    }
+    if swap.a <= MOST_EXPONENT && swap.b <= MOST_EXPONENT {
+        return Ok(false);
+    }
+    let value = swap.by_formula(alloc, alg, kind)?;
+    put(terms, &value)?;
+    Ok(true)
+}
+
+// The number of the product's term, where the formula of the kind has one alone.
+fn number_of_one(field: Field, kind: &PairKind, a: u16, b: u16) -> Option<u32>
+    requires proper { IsProper field kind.now }
+    requires reach { a + b ≤ 4095 }
+    ensures value { IfSome result (λ number. closed_form field kind.now a b ≡ cons_nonzero number (b, a) []) }
+    ensures in_range { IfSome result (λ number. number < field) }
+{
+    let _p = field.p();
+    match *kind {
+        PairKind::Commuting => Some(1),
+        PairKind::Quasi { q } => Some(power(field, q, u32::from(a) * u32::from(b))),
+        _ => None,
+    }
+}
+
+// The power of an element, in a number of products that is logarithmic in the exponent.
+fn power(field: Field, base: u32, exponent: u32) -> u32
+    requires { base < field }
+    ensures value { result ≡ base ^ exponent % field }
+    ensures in_range { result < field }
+{
+    let _p = field.p();
+    let (mut square, mut rest, mut result) = (base, exponent, 1);
+    while rest > 0 {
+        if rest % 2 == 1 {
+            result = field.mul(result, square);
+        }
+        square = field.mul(square, square);
+        rest /= 2;
+    }
+    result
+}
+
+// Puts the value of a place into `terms`, and lets the seat learn it.
+fn place_terms(
+    alloc: Global,
+    seat: &mut TableSeat,
+    place: Place,
+    terms: &mut Vec<Term>,
+) -> Result<(), AllocError>
+    requires place { IsPlace seat.old.algebra place }
+    ensures value { OnOk result (pairs_of terms.new.items ≡ place_value seat.old.algebra place) }
+    ensures algebra { seat.new.algebra ≡ seat.old.algebra }
+    ensures kept { Keeps seat.old seat.new }
+{
+    if let Some(value) = seat.known(place) {
+        return put(terms, value);
+    }
+    match seat.learn(alloc, place)? {
+        Learned::Shared => put_known(seat, place, terms),
+        Learned::Own(value) => put(terms, &value),
+    }
+}
+
+// Puts the value of a place that the seat knows into `terms`.
+fn put_known(seat: &TableSeat, place: Place, terms: &mut Vec<Term>) -> Result<(), AllocError>
+    requires place { IsPlace seat.now.algebra place }
+    requires known { Knows seat.now place }
+    ensures { OnOk result (pairs_of terms.new.items ≡ place_value seat.now.algebra place) }
+{
+    match seat.known(place) {
+        Some(value) => put(terms, value),
+        None => unreachable!(),
+    }
+}
+
+// Puts the terms of a polynomial in place of what was there.
+fn put(terms: &mut Vec<Term>, value: &GPoly) -> Result<(), AllocError>
+    ensures { OnOk result (pairs_of terms.new.items ≡ value.now) }
+{
+    terms.clear();
+    terms.extend_from_slice(value.terms())
+}
+
+// Puts one term, unless its number is zero, in place of what was there.
+fn put_one(terms: &mut Vec<Term>, coef: u32, mono: Expo) -> Result<(), AllocError>
+    ensures { OnOk result (pairs_of terms.new.items ≡ cons_nonzero coef mono []) }
+{
+    terms.clear();
+    if coef != 0 {
+        terms.push(Term { coef, mono })?;
+    }
+    Ok(())
 }

@@ -1,15 +1,16 @@
 //! Seats at the table: what a thread saw in the cells.
 
-ghost use Rattle.std.specs.Prelude.{◌≡◌, ◌↔◌, IsTrue, Ok, IfOk, MatchOption};
-ghost use Rattle.monomials.specs.Polynomials.{IsPolynomial};
+ghost use Rattle.std.specs.Prelude.{◌≡◌, ◌<◌, ◌≤◌, ℕ, IsTrue, Some, None, Ok, IfOk, IfSome, MatchOption, length, slice_index_or, slice_set};
+ghost use Rattle.closed_forms.specs.Kinds.{HasKind};
 ghost use Rattle.gproduct.specs.Places.{IsPlace, place_value};
 ghost use Rattle.gproduct.specs.Seats.{Knows, Keeps, Teaches};
 ghost use Rattle.gproduct.specs.declared.place.Place.{Place};
 ghost use Rattle.gproduct.specs.declared.seat.Learned.TheVariants.{Shared};
 
-use crate::place::Place;
+use crate::place::{Place, same_place};
 use crate::table::{Filled, Table};
 use algebra::Algebra;
+use closed_forms::PairKind;
 use gpoly::GPoly;
 use std::alloc::{AllocError, Global};
 use std::marker::Model;
@@ -57,7 +58,11 @@ impl<'r> Table<'r> {
         ensures algebra { IfOk result (λ s. s.algebra ≡ self.now) }
         ensures nothing { IfOk result (λ s. (place : Place) → ¬ (Knows s place)) }
     {
-        Err(AllocError)
+        let mut seen: Vec<Slot<'t, 'r>> = Vec::with_capacity(alloc, self.count())?;
+        for _ in 0..self.count() {
+            seen.push(Slot { cell: None })?;
+        }
+        Ok(TableSeat { table: self, seen })
     }
 }
 
@@ -68,4 +73,89 @@ impl<'t, 'r> TableSeat<'t, 'r> {
     {
         self.table.algebra()
     }
+
+    /// The value of a place, where the seat knows it. Takes no memory.
+    pub fn known(&self, place: Place) -> Option<&GPoly>
+        requires place { IsPlace self.now.algebra place }
+        ensures { MatchOption result (¬ (Knows self.now place))
+            (λ value. Knows self.now place × (value.now ≡ place_value self.now.algebra place)) }
+    {
+        let n = self.algebra().n();
+        let slot = self.seen.get(place.cell(n))?;
+        let found = slot.cell?;
+        if same_place(found.place, place) {
+            Some(&found.value)
+        } else {
+            None
+        }
+    }
+
+    /// Learns a place: from its cell where that is filled, and else by computing its value and
+    /// offering it to the cell. Of a place that is known it takes no memory.
+    pub fn learn(&mut self, alloc: Global, place: Place) -> Result<Learned, AllocError>
+        requires place { IsPlace self.old.algebra place }
+        ensures algebra { self.new.algebra ≡ self.old.algebra }
+        ensures kept { Keeps self.old self.new }
+        ensures learned { IfOk result (Teaches self.new place) }
+        ensures already { Knows self.old place → (result ≡ Ok Shared) × (self.new ≡ self.old) }
+    {
+        if self.known(place).is_some() {
+            return Ok(Learned::Shared);
+        }
+        let table = self.table;
+        let found = match table.look(place) {
+            Some(found) => Some(found),
+            None => {
+                let value = table.value(alloc, place)?;
+                table.fill(alloc, place, value)?
+            }
+        };
+        if let Some(found) = found
+            && self.note(found)
+        {
+            return Ok(Learned::Shared);
+        }
+        Ok(Learned::Own(table.value(alloc, place)?))
+    }
+
+    // The kind of the relation of x_i and x_j, where it has one. Takes no memory.
+    pub(crate) fn kind(&self, i: u8, j: u8) -> Option<PairKind>
+        requires first { 1 ≤ i }
+        requires ordered { i < j }
+        requires last { j ≤ self.now.algebra.order.vars }
+        ensures { IfSome result (λ kind. HasKind self.now.algebra i j kind) }
+    {
+        self.table.kind(i, j)
+    }
+
+    // Notes what a cell holds in its place's slot, where that is free.
+    fn note(&mut self, found: &'t Filled<'r>) -> bool
+        requires place { IsPlace self.old.algebra found.now.place }
+        requires algebra { found.now.algebra.now ≡ self.old.algebra }
+        ensures algebra { self.new.algebra ≡ self.old.algebra }
+        ensures kept { Keeps self.old self.new }
+        ensures noted { IsTrue result → Knows self.new found.now.place }
+    {
+        let index = found.place.cell(self.algebra().n());
+        let is_free = is_free(&self.seen, index);
+        if is_free {
+            fill_slot(&mut self.seen, index, found);
+        }
+        is_free
+    }
+}
+
+// Whether there is a slot with this number in which nothing is noted.
+fn is_free(seen: &[Slot], index: usize) -> bool
+    ensures { IsTrue result → (index < length seen.now) × (slice_index_or seen.now index (record { cell = None }) ≡ record { cell = None }) }
+{
+    index < seen.len() && seen[index].cell.is_none()
+}
+
+// Notes what a cell holds.
+fn fill_slot<'t, 'r>(seen: &mut Vec<Slot<'t, 'r>>, index: usize, found: &'t Filled<'r>)
+    requires { index < length seen.old.items }
+    ensures { seen.new.items ≡ slice_set seen.old.items index (record { cell = Some found.entry }) }
+{
+    seen[index] = Slot { cell: Some(found) };
 }

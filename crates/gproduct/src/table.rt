@@ -1,10 +1,13 @@
 //! The table: one set-once cell for each place.
 
-ghost use Rattle.std.specs.Prelude.{◌≡◌, IfOk};
-ghost use Rattle.gproduct.specs.Places.{place_value};
+ghost use Rattle.std.specs.Prelude.{◌≡◌, ◌<◌, ◌≤◌, ◌↔◌, IsTrue, IfOk, IfSome};
+ghost use Rattle.closed_forms.specs.Kinds.{HasKind};
+ghost use Rattle.gproduct.specs.Places.{IsPlace, place_value};
 
-use crate::place::Place;
+use crate::kinds::{kept_kind, kinds_of};
+use crate::place::{Place, same_place};
 use algebra::Algebra;
+use closed_forms::PairKind;
 use gpoly::GPoly;
 use once_cell::race::OnceBox;
 use std::alloc::{AllocError, Global};
@@ -24,25 +27,31 @@ pub(crate) struct Filled<'r> {
 #[derive(Drop)]
 pub struct Table<'r> {
     algebra: &'r Algebra,
+    kinds: Vec<Option<PairKind>>,
     cells: Vec<OnceBox<Filled<'r>>>,
 }
 
 impl<'r> Model for Table<'r> {
     ghost use Rattle.word_model.specs.Words.{Algebra as GAlgebra};
+    ghost use Rattle.gproduct.specs.Swaps.{AreKinds};
 
     ghost Value = { GAlgebra };
 
     ghost view = { λ t. t.algebra.now };
+
+    ghost invariant = { λ t. AreKinds t.algebra.now t.kinds.items };
 }
 
 impl<'r> Table<'r> {
-    /// A table of this algebra, with empty cells.
+    /// A table of this algebra, with empty cells. The kinds of all relations are found here, once.
     pub fn new(alloc: Global, alg: &'r Algebra) -> Result<Table<'r>, AllocError>
         ensures { IfOk result (λ t. t ≡ alg.now) }
     {
-        let cells = Vec::new(alloc);
+        let kinds = kinds_of(alloc, alg)?;
+        let cells = empty_cells(alloc, alg.n())?;
         Ok(Table {
             algebra: alg,
+            kinds,
             cells,
         })
     }
@@ -53,4 +62,99 @@ impl<'r> Table<'r> {
     {
         self.algebra
     }
+
+    // How many cells there are.
+    pub(crate) fn count(&self) -> usize {
+        self.cells.len()
+    }
+
+    // The kind of the relation of x_i and x_j, where it has one.
+    pub(crate) fn kind(&self, i: u8, j: u8) -> Option<PairKind>
+        requires first { 1 ≤ i }
+        requires ordered { i < j }
+        requires last { j ≤ self.now.order.vars }
+        ensures { IfSome result (λ kind. HasKind self.now i j kind) }
+    {
+        let _n = self.algebra.n();
+        kept_kind(&self.kinds, i, j)
+    }
+
+    // The value of a place, computed anew.
+    pub(crate) fn value(&self, alloc: Global, place: Place) -> Result<GPoly, AllocError>
+        requires { IsPlace self.now place }
+        ensures { IfOk result (λ r. r ≡ place_value self.now place) }
+    {
+        let kind = self.kind(place.i, place.j);
+        place.swap().value(alloc, self.algebra, kind)
+    }
+
+    // What the place's cell holds, where that is of this place in this algebra.
+    pub(crate) fn look<'t>(&'t self, place: Place) -> Option<&'t Filled<'r>>
+        requires { IsPlace self.now place }
+        ensures place { IfSome result (λ f. f.now.place ≡ place) }
+        ensures algebra { IfSome result (λ f. f.now.algebra.now ≡ self.now) }
+    {
+        let cell = self.cells.get(place.cell(self.algebra.n()))?;
+        let found = cell.get()?;
+        if found.is_of(place, self.algebra) {
+            Some(found)
+        } else {
+            None
+        }
+    }
+
+    // Offers the value of a place to its cell by one set, and answers what the cell then holds, where
+    // that is of this place in this algebra.
+    pub(crate) fn fill<'t>(
+        &'t self,
+        alloc: Global,
+        place: Place,
+        value: GPoly,
+    ) -> Result<Option<&'t Filled<'r>>, AllocError>
+        requires place { IsPlace self.now place }
+        requires value { value ≡ place_value self.now place }
+        ensures place { IfOk result (λ o. IfSome o (λ f. f.now.place ≡ place)) }
+        ensures algebra { IfOk result (λ o. IfSome o (λ f. f.now.algebra.now ≡ self.now)) }
+    {
+        let Some(cell) = self.cells.get(place.cell(self.algebra.n())) else {
+            return Ok(None);
+        };
+        let algebra = self.algebra;
+        let full = Box::new(
+            alloc,
+            Filled {
+                algebra,
+                place,
+                value,
+            },
+        )?;
+        let found = cell.get_or_init(move || full);
+        if found.is_of(place, self.algebra) {
+            Ok(Some(found))
+        } else {
+            Ok(None)
+        }
+    }
+}
+
+impl<'r> Filled<'r> {
+    // Whether it is of this place and of an equal algebra.
+    fn is_of(&self, place: Place, alg: &Algebra) -> bool
+        ensures { IsTrue result ↔ ((self.now.place ≡ place) × (self.now.algebra.now ≡ alg.now)) }
+    {
+        same_place(self.place, place) && self.algebra.same(alg)
+    }
+}
+
+// An empty cell for each place over n variables.
+fn empty_cells<'r>(alloc: Global, n: usize) -> Result<Vec<OnceBox<Filled<'r>>>, AllocError>
+    requires some { 1 ≤ n }
+    requires few { n ≤ 16 }
+{
+    let count = n * (n - 1) / 2 * 256;
+    let mut cells = Vec::with_capacity(alloc, count)?;
+    for _ in 0..count {
+        cells.push(OnceBox::new(alloc))?;
+    }
+    Ok(cells)
 }

@@ -1,0 +1,10 @@
+use Rattle.std.proofs.Common.{◌≡◌, IfSome, sym, subst}
+use Rattle.word_model.specs.Words.{Algebra}
+use Rattle.closed_forms.specs.Kinds.{HasKind}
+use Rattle.gproduct.specs.Swaps.{AreKinds}
+use Rattle.gproduct.proofs.table.Table.kind.Goals as goal
+
+pub returns : goal.returns
+returns c =
+    subst (λ (A : Algebra). IfSome c.kept_kind.result (λ kind. HasKind A c.args.i c.args.j kind)) c.self.view_is
+    (c.kept_kind.ensures c.self.inside.algebra.now (subst (AreKinds c.self.inside.algebra.now) (sym c.deref.ensures.value) c.self.invariant))

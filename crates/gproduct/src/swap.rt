@@ -1,0 +1,122 @@
+//! Two powers in the wrong order, and their product as a polynomial.
+
+ghost use Rattle.std.specs.Prelude.{◌≡◌, ◌+◌, ◌<◌, ◌≤◌, ◌∷◌, [], ◌++◌, replicate, map, IfOk, IfSome};
+ghost use Rattle.monomials.specs.Polynomials.{Each, IsPolynomial};
+ghost use Rattle.gpoly.specs.Terms.{pairs_of};
+ghost use Rattle.word_model.specs.Words.{monomial_of, normal_form};
+ghost use Rattle.closed_forms.specs.Forms.{pairs_of as powers_of};
+ghost use Rattle.closed_forms.specs.Kinds.{HasKind};
+ghost use Rattle.gproduct.specs.Swaps.{IsSwap, swap_word};
+
+use algebra::{Algebra, ProductFault};
+use closed_forms::{PairKind, Term2, power_product};
+use gpoly::{GPoly, Term};
+use monomials::Expo;
+use std::alloc::{AllocError, Global};
+
+/// The product `x_j^a x_i^b`, where i < j are numbers of variables.
+#[derive(Clone, Copy)]
+pub(crate) struct Swap {
+    pub(crate) i: u8,
+    pub(crate) j: u8,
+    pub(crate) a: u16,
+    pub(crate) b: u16,
+}
+
+impl Swap {
+    /// The normal form: by a formula where the pair's relation has a kind, and else by rewriting.
+    pub(crate) fn value(
+        self,
+        alloc: Global,
+        alg: &Algebra,
+        kind: Option<PairKind>,
+    ) -> Result<GPoly, AllocError>
+        requires swap { IsSwap alg.now self }
+        requires kind { IfSome kind (λ kind. HasKind alg.now self.i self.j kind) }
+        ensures { IfOk result (λ r. r ≡ normal_form alg.now (swap_word self)) }
+    {
+        match kind {
+            Some(kind) => self.by_formula(alloc, alg, &kind),
+            None => self.by_rewriting(alloc, alg),
+        }
+    }
+
+    /// The normal form, by the formula of the relation's kind.
+    pub(crate) fn by_formula(
+        self,
+        alloc: Global,
+        alg: &Algebra,
+        kind: &PairKind,
+    ) -> Result<GPoly, AllocError>
+        requires swap { IsSwap alg.now self }
+        requires kind { HasKind alg.now self.i self.j kind.now }
+        ensures { IfOk result (λ r. r ≡ normal_form alg.now (swap_word self)) }
+    {
+        let n = alg.n();
+        let powers = power_product(alloc, alg.field(), kind, self.a, self.b)?;
+        let terms = self.terms_of(alloc, n, &powers)?;
+        GPoly::from_terms(alloc, alg.field(), alg.order(), &terms)
+    }
+
+    // The normal form, by rewriting words.
+    fn by_rewriting(self, alloc: Global, alg: &Algebra) -> Result<GPoly, AllocError>
+        requires { IsSwap alg.now self }
+        ensures { IfOk result (λ r. r ≡ normal_form alg.now (swap_word self)) }
+    {
+        let _n = alg.n();
+        let high = self.power(alloc, alg, 0, self.a)?;
+        let low = self.power(alloc, alg, self.b, 0)?;
+        match alg.plain_product(alloc, &high, &low) {
+            Ok(product) => Ok(product),
+            Err(ProductFault::Memory) => Err(AllocError),
+            Err(ProductFault::DegreeOver) => unreachable!(),
+        }
+    }
+
+    // The polynomial `x_i^x x_j^y`.
+    fn power(self, alloc: Global, alg: &Algebra, x: u16, y: u16) -> Result<GPoly, AllocError>
+        requires swap { IsSwap alg.now self }
+        requires reach { x + y ≤ 4095 }
+        ensures value { IfOk result (λ r. r ≡
+            (1, monomial_of alg.now.order.vars (replicate x self.i ++ replicate y self.j)) ∷ []) }
+        ensures sorted { IfOk result (λ r. IsPolynomial alg.now.p alg.now.order r) }
+    {
+        let mono = self.monomial(alg.n(), x, y);
+        GPoly::from_terms(alloc, alg.field(), alg.order(), &[Term { coef: 1, mono }])
+    }
+
+    // Terms in x_i and x_j, as terms in n variables.
+    fn terms_of(self, alloc: Global, n: usize, powers: &[Term2]) -> Result<Vec<Term>, AllocError>
+        requires first { 1 ≤ self.i }
+        requires ordered { self.i < self.j }
+        requires last { self.j ≤ n }
+        requires few { n ≤ 16 }
+        requires small { Each (λ t. t.x + t.y ≤ 4095) powers.now }
+        ensures { IfOk result (λ r. pairs_of r.items ≡
+            map (λ t. (t.0, monomial_of n (replicate t.1.0 self.i ++ replicate t.1.1 self.j))) (powers_of powers.now)) }
+    {
+        let mut terms = Vec::with_capacity(alloc, powers.len())?;
+        for power in powers {
+            terms.push(Term {
+                coef: power.coef,
+                mono: self.monomial(n, power.x, power.y),
+            })?;
+        }
+        Ok(terms)
+    }
+
+    /// The monomial `x_i^x x_j^y` in n variables.
+    pub(crate) fn monomial(self, n: usize, x: u16, y: u16) -> Expo
+        requires first { 1 ≤ self.i }
+        requires ordered { self.i < self.j }
+        requires last { self.j ≤ n }
+        requires few { n ≤ 16 }
+        requires small { x + y ≤ 4095 }
+        ensures { result ≡ monomial_of n (replicate x self.i ++ replicate y self.j) }
+    {
+        let mut exponents = [0; 16];
+        exponents[usize::from(self.i) - 1] = x;
+        exponents[usize::from(self.j) - 1] = y;
+        Expo::of(&exponents[..n])
+    }
+}

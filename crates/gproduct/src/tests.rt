@@ -1,0 +1,4 @@
+//! Tests on algebras in three variables.
+
+mod algebras;
+mod table;

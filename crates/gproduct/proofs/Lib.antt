@@ -1,3 +1,9 @@
+mod SortedWords
+mod Stacks
+mod Swaps
+mod MultipliedOut
+mod Stages
+mod Sums
 pub mod TwoPowers
 pub mod PlainValue
 pub mod ClosedTerms

@@ -2,15 +2,15 @@
 use Rattle.std.proofs.Common.{◌≡◌, ℕ, zero, suc, ◌+◌, ◌-◌, ◌*◌, ◌%◌, ◌^◌, ◌<◌, ◌≤◌, ◌⊎◌, inl, inr, List, [], ◌∷◌, ◌++◌, map, length, replicate, get_or, refl, sym, ap, ◌∙◌, subst, subst₂, arith, pow-suc, mod-lt, mul-le-mul_left, mul-le-mul_right, length-append, append_assoc}
 use Rattle.std.proofs.Math.Nat.{pow-le-pow_right, one-le-pow}
 use Rattle.std.proofs.lemmas.List.{map-append, length-replicate}
-use Rattle.monomials.specs.Monomials.{Monomial, degree, minus}
+use Rattle.monomials.specs.Monomials.{Monomial, minus}
 use Rattle.monomials.specs.Orders.{order_cmp}
-use Rattle.monomials.specs.Polynomials.{Polynomial, Each, HasNumbers, HasVars, from_terms}
+use Rattle.monomials.specs.Polynomials.{Polynomial, Each, from_terms}
 use Rattle.monomials.proofs.Modulo.{Same, same_refl, same_add, same_mul, same_mul_right, same_rest}
 use Rattle.monomials.proofs.Weights.{weigh, weigh-append, weigh-from_terms}
 use Rattle.monomials.proofs.Operations.{IsPolynomial-from_terms}
-use Rattle.monomials.proofs.Keys.{Each-append, Each-first, Each-second, Each-weaker, EachKey}
+use Rattle.monomials.proofs.Keys.{Each-append, Each-first, Each-second, Each-weaker}
 use Rattle.monomials.proofs.OrderLaws.{order_cmp_tied}
-use Rattle.word_model.specs.Words.{Algebra, Word, WordSum, IsWord, sorted_word, leftmost_descent, normal_form, word_value, IsPaired}
+use Rattle.word_model.specs.Words.{Algebra, Word, WordSum, IsWord, sorted_word, normal_form, word_value}
 use Rattle.word_model.specs.Conditions.{IsAccepted}
 use Rattle.word_model.proofs.Letters.{Each-map, Each-both, length-word_from, monomial_of-sorted_word}
 use Rattle.word_model.proofs.Descents.{leftmost_descent-sorted_word}
@@ -21,7 +21,7 @@ use Rattle.word_model.proofs.Confluence.{word_weight-inside}
 use Rattle.gproduct.specs.declared.front.Crossing.{Crossing}
 use Rattle.gproduct.specs.Factors.{power, stacked_word, HaveVars, ProductSum, words_of, IsReady, AreTerms, IsCrossing, between, IsSwap}
 use Rattle.gproduct.proofs.SortedWords.{sorted_word-last, sorted_word-first, length-power}
-use Rattle.gproduct.proofs.Stacks.{stacked_word-append, IsWord-stacked_word, degrees-le}
+use Rattle.gproduct.proofs.Stacks.{stacked_word-append, IsWord-stacked_word}
 use Rattle.gproduct.proofs.Swaps.{powers_fall, part_less}
 
 -- ---- how many terms a swap may have
@@ -116,7 +116,7 @@ module _ (A : Algebra) (l : ℕ) where
 -- ---- swaps
 
 -- a monomial weighs what its sorted word does
-word_weight-sorted : (A : Algebra) (φ : Monomial → ℕ) (m : Monomial) → length m ≡ A.order.vars → word_weight A φ (sorted_word m) ≡ φ m
+pub word_weight-sorted : (A : Algebra) (φ : Monomial → ℕ) (m : Monomial) → length m ≡ A.order.vars → word_weight A φ (sorted_word m) ≡ φ m
 word_weight-sorted A φ m vars =
     ap (weigh φ) (normal_form-sorted A (sorted_word m) (leftmost_descent-sorted_word m)) ∙ omega (arith, ap φ (monomial_of-sorted_word A.order.vars m vars))
 

@@ -1,9 +1,9 @@
 -- Words of monomials: products, and powers of the last and the first variable.
-use Rattle.std.proofs.Common.{◌≡◌, ℕ, zero, suc, ◌+◌, ◌-◌, ◌<◌, ◌≤◌, ◌⊎◌, inl, inr, true, List, [], ◌∷◌, ◌++◌, length, get_or, take, set, replicate, refl, sym, ap, ◌∙◌, arith, append_assoc, append-nil, length-append}
+use Rattle.std.proofs.Common.{◌≡◌, ℕ, zero, suc, ◌+◌, ◌-◌, ◌<◌, ◌≤◌, ◌⊎◌, inl, inr, true, [], ◌∷◌, ◌++◌, length, get_or, take, set, replicate, refl, sym, ap, ◌∙◌, arith, append_assoc, append-nil, length-append}
 use Rattle.std.proofs.lemmas.List.{replicate-append-replicate, length-replicate, take-replicate}
 use Rattle.monomials.specs.Monomials.{Monomial, plus, minus, divides}
 use Rattle.monomials.proofs.Exponents.{divides_decides, get_or-zeros}
-use Rattle.word_model.specs.Words.{Word, word_from, sorted_word}
+use Rattle.word_model.specs.Words.{word_from, sorted_word}
 use Rattle.gproduct.specs.Factors.{power}
 
 -- a monomial without exponents has no letter
@@ -105,6 +105,16 @@ module _ (n v k : ℕ) (m : Monomial) (low : 1 ≤ v) (high : v ≤ n) (vars : l
 
   pub sorted_word-first : ((q : ℕ) → q + 1 < v → get_or m q 0 ≡ 0) → sorted_word m ≡ replicate k v ++ sorted_word (minus m (power n v k))
   sorted_word-first first = word_from-first 1 (v - 1) (n - v) k v m (omega arith) (omega arith) within (λ q l. first q (omega arith))
+
+-- the word of a power
+word_from-power : (i u z k v : ℕ) → v ≡ u + i → word_from i (at u k z) ≡ replicate k v
+word_from-power i zero z k v is =
+    let this : i ≡ v = omega arith in
+    ap (λ w. replicate k i ++ w) (word_from-nothing (suc i) (replicate z 0) (get_or-zeros z)) ∙ append-nil (replicate k i) ∙ ap (replicate k) this
+word_from-power i (suc u) z k v is = word_from-power (suc i) u z k v (omega arith)
+
+pub sorted_word-power : (n v k : ℕ) → 1 ≤ v → sorted_word (power n v k) ≡ replicate k v
+sorted_word-power n v k low = word_from-power 1 (v - 1) (n - v) k v (omega arith)
 
 pub length-power : (n v k : ℕ) → 1 ≤ v → v ≤ n → length (power n v k) ≡ n
 length-power n v k low high =

@@ -3,3 +3,4 @@ pub mod Swaps
 pub mod Seats
 pub mod Counting
 pub mod Factors
+pub mod Parts

@@ -5,6 +5,9 @@
 mod kinds;
 mod front;
 mod multiplying;
+mod kinds;
+mod multiplying;
+mod parts;
 mod pending;
 mod place;
 mod powers;

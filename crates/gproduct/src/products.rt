@@ -1,18 +1,157 @@
 //! Products of terms, variables and polynomials.
 
-ghost use Rattle.std.specs.Prelude.{◌≡◌, ◌≢◌, ◌<◌, ◌≤◌, true, false, ◌∷◌, [], length, IfOk, OnOk, Err};
-ghost use Rattle.monomials.specs.Polynomials.{IsPolynomial};
+ghost use Rattle.std.specs.Prelude.{◌≡◌, ◌≢◌, ◌+◌, ◌<◌, ◌≤◌, true, false, ◌∷◌, ◌++◌, [], length, map, IfOk, OnOk, Err};
+ghost use Rattle.monomials.specs.Monomials.{degree};
+ghost use Rattle.monomials.specs.Polynomials.{IsPolynomial, poly_degree};
+ghost use Rattle.gpoly.specs.Terms.{pairs_of};
 ghost use Rattle.word_model.specs.Products.{product, variable_polynomial, in_reach};
 ghost use Rattle.gproduct.specs.Seats.{Keeps};
 ghost use Rattle.gproduct.specs.Counting.{Counts};
+ghost use Rattle.gproduct.specs.Factors.{factor_count, power, products_in};
 
+use crate::front::power;
+use crate::multiplying::multiply_out;
+use crate::parts::{add_part, total};
+use crate::pending::Pending;
 use crate::seat::TableSeat;
 use crate::steps::Steps;
 use algebra::ProductFault;
-use gpoly::GPoly;
+use gpoly::{GPoly, Term};
 use monomials::Expo;
-use std::alloc::Global;
+use std::alloc::{AllocError, Global};
 use std::sync::ledger::Ledger;
+
+// The most that the degrees of the factors may add up to.
+const DEGREE_LIMIT: u32 = 4095;
+
+// Adds the products of `mono` with each of the terms behind it.
+fn push_before(
+    pending: &mut Pending,
+    mono: &Expo,
+    terms: &[Term],
+) -> Result<(), AllocError>
+    requires { factor_count pending.old.open.items ≡ length pending.old.factors.items }
+    ensures counted { OnOk result (factor_count pending.new.open.items ≡ length pending.new.factors.items) }
+    ensures products { OnOk result (products_in pending.new.open.items pending.new.factors.items
+        ≡ products_in pending.old.open.items pending.old.factors.items
+        ++ map (λ t. (t.0, t.1 ∷ mono.now ∷ [])) (pairs_of terms.now)) }
+{
+    for term in terms {
+        pending.push(term.coef, &[], &[term.mono, *mono])?;
+    }
+    Ok(())
+}
+
+// Adds the products of each of the terms with `mono` behind it.
+fn push_behind(
+    pending: &mut Pending,
+    terms: &[Term],
+    mono: &Expo,
+) -> Result<(), AllocError>
+    requires { factor_count pending.old.open.items ≡ length pending.old.factors.items }
+    ensures counted { OnOk result (factor_count pending.new.open.items ≡ length pending.new.factors.items) }
+    ensures products { OnOk result (products_in pending.new.open.items pending.new.factors.items
+        ≡ products_in pending.old.open.items pending.old.factors.items
+        ++ map (λ t. (t.0, mono.now ∷ t.1 ∷ [])) (pairs_of terms.now)) }
+{
+    for term in terms {
+        pending.push(term.coef, &[], &[*mono, term.mono])?;
+    }
+    Ok(())
+}
+
+// The product of a power of a variable with `f`.
+fn power_times(
+    alloc: Global,
+    seat: &mut TableSeat,
+    pending: &mut Pending,
+    v: u8,
+    exponent: u16,
+    f: GPoly,
+) -> Result<GPoly, AllocError>
+    requires counted { factor_count pending.old.open.items ≡ length pending.old.factors.items }
+    requires empty { pending.old.open.items ≡ [] }
+    requires first { 1 ≤ v }
+    requires last { v ≤ seat.old.algebra.order.vars }
+    requires sorted { IsPolynomial seat.old.algebra.p seat.old.algebra.order f }
+    requires within { exponent + poly_degree f ≤ 4095 }
+    ensures counted { IfOk result (λ r. factor_count pending.new.open.items ≡ length pending.new.factors.items) }
+    ensures empty { IfOk result (λ r. pending.new.open.items ≡ []) }
+    ensures value { IfOk result (λ r. r ≡ product seat.old.algebra ((1, power seat.old.algebra.order.vars v exponent) ∷ []) f) }
+    ensures sorted { IfOk result (λ r. IsPolynomial seat.old.algebra.p seat.old.algebra.order r) }
+    ensures algebra { seat.new.algebra ≡ seat.old.algebra }
+    ensures kept { Keeps seat.old seat.new }
+{
+    let n = seat.algebra().n();
+    if exponent == 0 {
+        return Ok(f);
+    }
+    push_before(pending, &power(n, v, exponent), f.terms())?;
+    multiply_out(alloc, seat, pending)
+}
+
+// The product of a term with `f`: by the powers of its variables, from the last to the first.
+fn term_times_within(
+    alloc: Global,
+    seat: &mut TableSeat,
+    pending: &mut Pending,
+    coef: u32,
+    mono: &Expo,
+    f: &GPoly,
+) -> Result<GPoly, AllocError>
+    requires counted { factor_count pending.old.open.items ≡ length pending.old.factors.items }
+    requires empty { pending.old.open.items ≡ [] }
+    requires sorted { IsPolynomial seat.old.algebra.p seat.old.algebra.order f.now }
+    requires in_range { coef < seat.old.algebra.p }
+    requires vars { length mono.now ≡ seat.old.algebra.order.vars }
+    requires within { degree mono.now + poly_degree f.now ≤ 4095 }
+    ensures counted { IfOk result (λ r. factor_count pending.new.open.items ≡ length pending.new.factors.items) }
+    ensures empty { IfOk result (λ r. pending.new.open.items ≡ []) }
+    ensures value { IfOk result (λ r. r ≡ product seat.old.algebra ((coef, mono.now) ∷ []) f.now) }
+    ensures sorted { IfOk result (λ r. IsPolynomial seat.old.algebra.p seat.old.algebra.order r) }
+    ensures algebra { seat.new.algebra ≡ seat.old.algebra }
+    ensures kept { Keeps seat.old seat.new }
+{
+    let algebra = seat.algebra();
+    let mut v = algebra.n() as u8;
+    let mut product = f.scale(alloc, algebra.field(), coef)?;
+    while v > 0 {
+        product = power_times(alloc, seat, pending, v, mono.get(v), product)?;
+        v -= 1;
+    }
+    Ok(product)
+}
+
+// The products of the terms of `f` with `g`, summed. Each counts a step.
+fn times_within<L: Ledger>(
+    alloc: Global,
+    seat: &mut TableSeat,
+    f: &GPoly,
+    g: &GPoly,
+    steps: &mut Steps<L>,
+) -> Result<GPoly, AllocError>
+    requires f_sorted { IsPolynomial seat.old.algebra.p seat.old.algebra.order f.now }
+    requires g_sorted { IsPolynomial seat.old.algebra.p seat.old.algebra.order g.now }
+    requires within { poly_degree f.now + poly_degree g.now ≤ 4095 }
+    ensures value { IfOk result (λ r. r ≡ product seat.old.algebra f.now g.now) }
+    ensures sorted { IfOk result (λ r. IsPolynomial seat.old.algebra.p seat.old.algebra.order r) }
+    ensures algebra { seat.new.algebra ≡ seat.old.algebra }
+    ensures kept { Keeps seat.old seat.new }
+    ensures counted { OnOk result (steps.new ≡ steps.old + length f.now) }
+    ensures rises { steps.old ≤ steps.new }
+    ensures at_most { steps.new ≤ steps.old + length f.now }
+{
+    let algebra = seat.algebra();
+    let _n = algebra.n();
+    let mut pending = Pending::new(alloc);
+    let mut parts = Vec::new(alloc);
+    for term in f.terms() {
+        steps.tick();
+        let part = term_times_within(alloc, seat, &mut pending, term.coef, &term.mono, g)?;
+        add_part(alloc, algebra.field(), algebra.order(), &mut parts, part)?;
+    }
+    total(alloc, algebra.field(), algebra.order(), parts)
+}
 
 /// The product of the term `coef * mono` with `f`. `DegreeOver` comes exactly where both are nonzero
 /// and their degrees add up to more than 4095.
@@ -36,7 +175,16 @@ pub fn term_times<L: Ledger>(
     ensures kept { Keeps seat.old seat.new }
     ensures counted { Counts 1 result steps.old steps.new }
 {
-    Err(ProductFault::Memory)
+    if f.is_zero() {
+        steps.tick();
+        return Ok(GPoly::zero(alloc));
+    }
+    if mono.degree() + f.degree() > DEGREE_LIMIT {
+        return Err(ProductFault::DegreeOver);
+    }
+    steps.tick();
+    let mut pending = Pending::new(alloc);
+    Ok(term_times_within(alloc, seat, &mut pending, coef, mono, f)?)
 }
 
 /// The product of `f` with the variable of number `v`. `DegreeOver` comes exactly where `f` is not
@@ -60,7 +208,14 @@ pub fn right_times<L: Ledger>(
     ensures kept { Keeps seat.old seat.new }
     ensures counted { Counts 1 result steps.old steps.new }
 {
-    Err(ProductFault::Memory)
+    if f.degree() >= DEGREE_LIMIT {
+        return Err(ProductFault::DegreeOver);
+    }
+    steps.tick();
+    let n = seat.algebra().n();
+    let mut pending = Pending::new(alloc);
+    push_behind(&mut pending, f.terms(), &Expo::var(n, v))?;
+    Ok(multiply_out(alloc, seat, &mut pending)?)
 }
 
 /// The product of `f` and `g`. `DegreeOver` comes exactly where both are nonzero and their degrees
@@ -82,5 +237,8 @@ pub fn times<L: Ledger>(
     ensures kept { Keeps seat.old seat.new }
     ensures counted { Counts (length f.now) result steps.old steps.new }
 {
-    Err(ProductFault::Memory)
+    if f.degree() + g.degree() > DEGREE_LIMIT {
+        return Err(ProductFault::DegreeOver);
+    }
+    Ok(times_within(alloc, seat, f, g, steps)?)
 }

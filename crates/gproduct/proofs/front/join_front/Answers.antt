@@ -1,4 +1,4 @@
-use Rattle.std.proofs.Common.{◌≡◌, ℕ, ◌+◌, ◌<◌, ◌≤◌, ◌⊎◌, inl, inr, ◌∙◌, ◌++◌, ◌∷◌, [], length, get_or, sym, ap, subst, arith, append_assoc, append-nil}
+use Rattle.std.proofs.Common.{◌≡◌, ℕ, ◌+◌, ◌<◌, ◌≤◌, ◌⊎◌, inl, inr, ◌∙◌, ◌++◌, ◌∷◌, [], length, get_or, sym, ap, subst, arith, append_assoc}
 use Rattle.std.proofs.Math.ListN.{length-replicate}
 use Rattle.monomials.proofs.Exponents.{length-zip_with}
 use Rattle.monomials.proofs.Keys.{Each-first, Each-second}

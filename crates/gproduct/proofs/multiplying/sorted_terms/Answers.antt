@@ -1,4 +1,4 @@
-use Rattle.std.proofs.Common.{◌≡◌, ℕ, ◌+◌, ◌*◌, ◌%◌, ◌<◌, ◌≤◌, ◌∙◌, ◌++◌, ◌∷◌, [], List, Option, Some, None, MatchOption, length, map, sym, ap, subst, subst₂, arith}
+use Rattle.std.proofs.Common.{◌≡◌, ℕ, ◌<◌, ◌∙◌, ◌++◌, ◌∷◌, [], List, sym, ap, subst, subst₂}
 use Rattle.std.proofs.lemmas.List.{map-append}
 use Rattle.monomials.specs.Monomials.{Monomial}
 use Rattle.gpoly.specs.Terms.{pair_of, pairs_of}
@@ -7,7 +7,7 @@ use Rattle.word_model.specs.Conditions.{IsAccepted}
 use Rattle.gproduct.specs.declared.front.Crossing.{Crossing}
 use Rattle.gproduct.specs.Factors.{HaveVars, ProductSum, IsCrossing, IsSwap, products_in, stacked_word, words_of}
 use Rattle.gproduct.proofs.Stacks.{degrees-le}
-use Rattle.gproduct.proofs.MultipliedOut.{IsMultiplying, sum_measure, begin, last_number, last_short, go_sorted, sorted_falls, go_on, swapped_falls, finish}
+use Rattle.gproduct.proofs.MultipliedOut.{IsMultiplying, sum_measure, last_number, last_short, go_sorted, sorted_falls, go_on, swapped_falls, finish}
 use Rattle.gproduct.proofs.multiplying.sorted_terms.Goals as goal
 use Rattle.gproduct.proofs.multiplying.sorted_terms.Goals.{In-Some, In-Sorted, In-Crossed}
 

@@ -1,11 +1,10 @@
 -- Leading terms and multiples, as the program makes them.
-use Rattle.std.proofs.Common.{◌≡◌, ◌≢◌, ℕ, ◌-◌, ◌<◌, ◌≤◌, max, nat_le, true, List, [], ◌∷◌, length, Some, refl, sym, ap, ◌∙◌, arith}
-use Rattle.std.proofs.Math.Nat.{mod-eq_of_lt}
+use Rattle.std.proofs.Common.{◌≡◌, ◌≢◌, ℕ, ◌-◌, ◌<◌, ◌≤◌, max, nat_le, true, List, [], ◌∷◌, length, Some, refl, sym, ◌∙◌, arith}
 use Rattle.std.proofs.lemmas.Bool.{and_from, le-leb}
 use Rattle.std.specs.declared.cmp.Ordering.{Ordering}
 use Rattle.monomials.specs.Monomials.{Monomial, minus, lcm, divides}
 use Rattle.monomials.specs.Orders.{RowOrder}
-use Rattle.monomials.specs.Polynomials.{Polynomial, Each, HasVars, IsCanonical, IsPolynomial, cons_nonzero, from_terms}
+use Rattle.monomials.specs.Polynomials.{Polynomial, Each, HasVars, IsCanonical, IsPolynomial}
 use Rattle.monomials.specs.Leading.{leading_monomial, leading_coefficient}
 use Rattle.monomials.proofs.Exponents.{length-zip_with}
 use Rattle.word_model.specs.Words.{Algebra}
@@ -14,19 +13,11 @@ use Rattle.word_model.specs.Reduction.{element, first_divisor, multiple}
 use Rattle.word_model.proofs.LeastNumbers.{Each-element, IsFirstDivisor, first_divisor-found}
 use Rattle.word_model.proofs.Reductions.{multiple-leading}
 
--- the polynomial with the one term 1 m
-pub one_term : (cmp : Monomial → Monomial → Ordering) (p : ℕ) (m : Monomial) → 1 < p → from_terms cmp p ((1, m) ∷ []) ≡ (1, m) ∷ []
-one_term cmp p m above_one = ap (λ c. cons_nonzero c m []) (mod-eq_of_lt above_one)
-
 -- ---- leading terms
 
 length-leading : (n : ℕ) (f : Polynomial) → HasVars n f → f ≢ [] → length (leading_monomial f) ≡ n
 length-leading n [] vars nonzero = absurd (nonzero refl)
 length-leading n (t ∷ f) vars nonzero = vars.0
-
-pub leading-nonzero : (cmp : Monomial → Monomial → Ordering) (p : ℕ) (f : Polynomial) → IsCanonical cmp p f → f ≢ [] → leading_coefficient f ≢ 0
-leading-nonzero cmp p [] h nonzero = absurd (nonzero refl)
-leading-nonzero cmp p (t ∷ f) h nonzero = λ e. omega (arith, h.0)
 
 pub leading-below : (cmp : Monomial → Monomial → Ordering) (p : ℕ) (f : Polynomial) → IsCanonical cmp p f → f ≢ [] → leading_coefficient f < p
 leading-below cmp p [] h nonzero = absurd (nonzero refl)

@@ -36,14 +36,6 @@ module _ (A : Algebra) (ok : IsAccepted A) where
       ap (λ b. if b then Goes s (less_step A G h s) else Undefined) (ap (λ m. is_within m g) (sym is_m) ∙ within)
       ∙ sym (λ j. Goes (record { coef = coef j; mono = is_m j; index = i }) (left j))
 
-  -- a step that is not made
-  pub step-undefined : (G : List Polynomial) (h : Polynomial) (t : ℕ × Monomial) (i : ℕ) (m : Monomial)
-      → m ≡ minus t.1 (leading_monomial (element G i)) → is_within m (element G i) ≡ false → next_step A G h (Some (t, i)) ≡ Undefined
-  step-undefined G h t i m is_m over =
-      let g : Polynomial = element G i in
-      let s : TraceStep = step_by A t i g in
-      ap (λ b. if b then Goes s (less_step A G h s) else Undefined) (ap (λ m. is_within m g) (sym is_m) ∙ over)
-
   -- an S-polynomial, as it is made
   pub s_polynomial-made : (f g : Polynomial) (a b : Monomial) (first second : Polynomial) (k : ℕ)
       → IsPolynomial A.p A.order g → length b ≡ A.order.vars

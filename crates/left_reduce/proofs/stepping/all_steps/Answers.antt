@@ -1,4 +1,4 @@
-use Rattle.std.proofs.Common.{◌≡◌, ℕ, ◌+◌, ◌≤◌, ◌<◌, max, [], ◌∷◌, ◌++◌, length, true, false, Some, refl, sym, ap, ◌∙◌, subst, arith, length-append}
+use Rattle.std.proofs.Common.{◌≡◌, ◌+◌, ◌≤◌, ◌<◌, max, [], ◌∷◌, length, true, false, Some, refl, sym, ap, ◌∙◌, subst, arith, length-append}
 use Rattle.monomials.specs.Polynomials.{HasVars, poly_degree}
 use Rattle.monomials.proofs.Keys.{Each-weaker}
 use Rattle.monomials.proofs.Operations.{HasNumbers-polynomial}

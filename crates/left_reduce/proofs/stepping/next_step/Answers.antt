@@ -1,7 +1,7 @@
-use Rattle.std.proofs.Common.{◌≡◌, ◌≢◌, ℕ, ◌<◌, [], length, true, sym, ap, ◌∙◌, subst, subst₂}
+use Rattle.std.proofs.Common.{◌≡◌, ℕ, ◌<◌, length, true, sym, ap, ◌∙◌, subst, subst₂}
 use Rattle.monomials.specs.Monomials.{minus, divides}
 use Rattle.monomials.specs.Orders.{RowOrder, order_cmp}
-use Rattle.monomials.specs.Polynomials.{Polynomial, HasNumbers, IsPolynomial, poly_scale, poly_sub}
+use Rattle.monomials.specs.Polynomials.{HasNumbers, IsPolynomial, poly_scale, poly_sub}
 use Rattle.monomials.specs.Leading.{leading_monomial, leading_coefficient}
 use Rattle.monomials.proofs.Operations.{HasNumbers-polynomial}
 use Rattle.gpoly.specs.Terms.{pair_of}

@@ -274,12 +274,12 @@ module _ (A : Algebra) (gens : List Polynomial) (mode : Mode) (budget : ℕ) (o 
     entries = ap (λ e. e ++ entry ∷ []) at.entries ∙ sym entries;
     basis = grown;
     jobs = λ other. (
-      queued-append (without job x.queue) (jobs_of mode A.order.vars (suc (length x.basis))) other
-      ∙ ap (λ b. b || is_queued (jobs_of mode A.order.vars (suc (length x.basis))) other) (left other)
-      ∙ sym (queued-append (jobs_in (drop 1 q.items)) (jobs_of mode A.order.vars (suc (length x.basis))) other)
-      ∙ ap (λ m. is_queued (jobs_in (drop 1 q.items) ++ jobs_of mode A.order.vars m) other) count
-      ∙ more other
-    );
+        queued-append (without job x.queue) (jobs_of mode A.order.vars (suc (length x.basis))) other
+        ∙ ap (λ b. b || is_queued (jobs_of mode A.order.vars (suc (length x.basis))) other) (left other)
+        ∙ sym (queued-append (jobs_in (drop 1 q.items)) (jobs_of mode A.order.vars (suc (length x.basis))) other)
+        ∙ ap (λ m. is_queued (jobs_in (drop 1 q.items) ++ jobs_of mode A.order.vars m) other) count
+        ∙ more other
+        );
   }
     where
       grown : x.basis ++ element ∷ [] ≡ t.basis
@@ -347,19 +347,19 @@ pub lead-first : (A alg : Algebra) (gens given : List Polynomial) (mode : Mode) 
     → q.order ≡ alg.order → s.queue ≡ jobs_in q.items → Each (HasKey alg given []) q.items → IsLead (run_at A gens mode budget None s) q
 lead-first A alg gens given mode budget s q made copied ok sorted few empty seeds order queue keys =
     subst (λ (x : Algebra). IsLead (run_at x gens mode budget None s) q) (sym made) (
-      subst (λ (x : List Polynomial). IsLead (run_at alg x mode budget None s) q) (sym copied) record {
-        sorted = sorted;
-        few = few;
-        state = record {
-          elements = subst (Each (IsElement alg)) (sym empty) first.elements;
-          few = omega (arith, ap length empty);
-          jobs = subst (λ (G : List Polynomial). Each (IsNamed alg given G) s.queue) (sym empty) (Each-same (IsNamed alg given []) (seeds_from 1 given) s.queue seeds first.jobs);
-        };
-        order = order;
-        jobs = queue;
-        keys = subst (λ (G : List Polynomial). Each (HasKey alg given G) q.items) (sym empty) keys;
-        over = tt;
-      }
+    subst (λ (x : List Polynomial). IsLead (run_at alg x mode budget None s) q) (sym copied) record {
+      sorted = sorted;
+      few = few;
+      state = record {
+        elements = subst (Each (IsElement alg)) (sym empty) first.elements;
+        few = omega (arith, ap length empty);
+        jobs = subst (λ (G : List Polynomial). Each (IsNamed alg given G) s.queue) (sym empty) (Each-same (IsNamed alg given []) (seeds_from 1 given) s.queue seeds first.jobs);
+      };
+      order = order;
+      jobs = queue;
+      keys = subst (λ (G : List Polynomial). Each (HasKey alg given G) q.items) (sym empty) keys;
+      over = tt;
+    }
     )
   where
     first : IsState alg given (first_state given)

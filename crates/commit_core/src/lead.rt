@@ -144,7 +144,9 @@ impl Lead {
             result ≡ record { entries = self.entries; basis = self.basis; outcome = outcome } }
     {
         let Lead {
-            progress, outcome, ..
+            progress,
+            outcome,
+            ..
         } = self;
         Journal {
             entries: progress.entries,
@@ -338,7 +340,8 @@ impl Lead {
     {
         pair_strategy::laws::queues_are_sets();
         let _n = alg.n();
-        self.progress.admit(alloc, alg, &self.generators, self.mode, entry, element)?;
+        self.progress
+            .admit(alloc, alg, &self.generators, self.mode, entry, element)?;
         Ok(Committed::Added)
     }
 }

@@ -9,12 +9,11 @@ ghost use Rattle.commit_core.specs.Leads.{IsAt};
 use algebra::Algebra;
 use gpoly::GPoly;
 use gproduct::{Steps, Table, TableSeat};
+pub use lead::{Committed, Lead};
 use run_records::{Engine, Journal, Mode};
 use std::alloc::{AllocError, Global};
 use std::marker::Brand;
 use std::sync::ledger::{Blank, Ledger};
-
-pub use lead::{Committed, Lead};
 
 mod lead;
 mod progress;

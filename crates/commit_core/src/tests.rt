@@ -8,6 +8,7 @@ use super::*;
 use algebra::Relations;
 use gpoly::Term;
 use monomials::{Block, Expo, Order};
+use plain::PlainWorker;
 use prime_field::Field;
 use run_records::{Entry, Job, Outcome, Trace};
 use std::test::Fail;
@@ -167,19 +168,29 @@ fn push_entry(text: &mut String, entry: &Entry) -> Result<(), AllocError> {
     Ok(())
 }
 
+fn push_entries(text: &mut String, entries: &[Entry]) -> Result<(), AllocError> {
+    for entry in entries {
+        push_entry(text, entry)?;
+        text.push('\n')?;
+    }
+    Ok(())
+}
+
+fn name_of(outcome: Outcome) -> &'static str {
+    match outcome {
+        Outcome::Finished => "Finished",
+        Outcome::BudgetSpent => "BudgetSpent",
+        Outcome::BasisFull => "BasisFull",
+        Outcome::DegreeOver => "DegreeOver",
+    }
+}
+
 // The entries, one a line, and then the outcome and the terms of the basis.
 fn journal_text(alloc: Global, journal: &Journal) -> Result<String, AllocError> {
     let mut text = String::new(alloc);
-    for entry in &journal.entries {
-        push_entry(&mut text, entry)?;
-        text.push('\n')?;
-    }
-    text.push_str(match journal.outcome {
-        Outcome::Finished => "Finished:",
-        Outcome::BudgetSpent => "BudgetSpent:",
-        Outcome::BasisFull => "BasisFull:",
-        Outcome::DegreeOver => "DegreeOver:",
-    })?;
+    push_entries(&mut text, &journal.entries)?;
+    text.push_str(name_of(journal.outcome))?;
+    text.push(':')?;
     for element in &journal.basis {
         for term in element.terms() {
             push_term(&mut text, term.coef, &term.mono)?;
@@ -209,6 +220,24 @@ fn run<E: Engine>(
     Ok(journal_text(alloc, &journal)?)
 }
 
+// The journal of the lead's run, where the plain program's is the same.
+fn journal(
+    alloc: Global,
+    alg: &Algebra,
+    gens: &str,
+    mode: Mode,
+    budget: u32,
+) -> Result<String, Fail>
+    requires { 1 ≤ budget }
+{
+    let text = run(alloc, &mut OneWorker::new(), alg, gens, mode, budget)?;
+    let plain = run(alloc, &mut PlainWorker::new(), alg, gens, mode, budget)?;
+    if text != plain {
+        return Err("the two engines have the same journal".into());
+    }
+    Ok(text)
+}
+
 const WEYL: &str = "\
 New Seed 2 times 1
 New Seed 1 times 1
@@ -225,10 +254,9 @@ BudgetSpent: 1:02;";
 fn ends_without_jobs_or_without_budget(rt: HostRuntime) -> Result<(), Fail> {
     let alloc = rt.alloc();
     let alg = weyl(alloc)?;
-    let mut worker = OneWorker::new();
-    let text = run(alloc, &mut worker, &alg, "1:11, 1:02", Mode::Left, 5)?;
+    let text = journal(alloc, &alg, "1:11, 1:02", Mode::Left, 5)?;
     assert_eq!(rt; text.as_str(), WEYL);
-    let text = run(alloc, &mut worker, &alg, "1:11, 1:02", Mode::Left, 1)?;
+    let text = journal(alloc, &alg, "1:11, 1:02", Mode::Left, 1)?;
     assert_eq!(rt; text.as_str(), WEYL_SHORT);
     Ok(())
 }
@@ -243,14 +271,7 @@ BudgetSpent: 1:10; 1:00;";
 fn multiplies_from_the_right_in_two_sided_runs(rt: HostRuntime) -> Result<(), Fail> {
     let alloc = rt.alloc();
     let alg = weyl(alloc)?;
-    let text = run(
-        alloc,
-        &mut OneWorker::new(),
-        &alg,
-        "1:10",
-        Mode::TwoSided,
-        3,
-    )?;
+    let text = journal(alloc, &alg, "1:10", Mode::TwoSided, 3)?;
     assert_eq!(rt; text.as_str(), TWO_SIDED);
     Ok(())
 }
@@ -269,7 +290,7 @@ fn skips_a_pair_by_two_that_were_treated(rt: HostRuntime) -> Result<(), Fail> {
     let alloc = rt.alloc();
     let alg = ring(alloc, 3)?;
     let gens = "1:110, 1:011, 1:101";
-    let text = run(alloc, &mut OneWorker::new(), &alg, gens, Mode::Left, 100)?;
+    let text = journal(alloc, &alg, gens, Mode::Left, 100)?;
     assert_eq!(rt; text.as_str(), THREE_MONOMIALS);
     Ok(())
 }
@@ -292,7 +313,7 @@ fn takes_pairs_of_equal_lcms_by_their_second_element(rt: HostRuntime) -> Result<
     let alloc = rt.alloc();
     let alg = ring(alloc, 4)?;
     let gens = "1:0111, 1:1011, 1:1101, 1:1110";
-    let text = run(alloc, &mut OneWorker::new(), &alg, gens, Mode::Left, 100)?;
+    let text = journal(alloc, &alg, gens, Mode::Left, 100)?;
     assert_eq!(rt; text.as_str(), EQUAL_LCMS);
     Ok(())
 }
@@ -319,7 +340,112 @@ fn makes_a_basis_in_the_heisenberg_algebra(rt: HostRuntime) -> Result<(), Fail> 
     let alloc = rt.alloc();
     let alg = heisenberg(alloc)?;
     let gens = "1:10100, 1:01010, 1:00001 32002:00000, 1:00200";
-    let text = run(alloc, &mut OneWorker::new(), &alg, gens, Mode::Left, 100)?;
+    let text = journal(alloc, &alg, gens, Mode::Left, 100)?;
     assert_eq!(rt; text.as_str(), HEISENBERG);
+    Ok(())
+}
+
+#[test]
+fn zero_generators_have_no_seeds(rt: HostRuntime) -> Result<(), Fail> {
+    let alloc = rt.alloc();
+    let alg = weyl(alloc)?;
+    let text = journal(alloc, &alg, "0:11, 0:02", Mode::Left, 1)?;
+    assert_eq!(rt; text.as_str(), "Finished:");
+    Ok(())
+}
+
+// The ring in t, x and y modulo 101, whose order compares by the power of t first.
+fn marked(alloc: Global) -> Result<Algebra, Fail>
+    ensures { IfOk result (λ alg. alg.order.vars ≡ 3) }
+{
+    let order = Order::new(alloc, &[Block::DegRev { len: 3 }], 3)?;
+    let t_first = order.with_extra(alloc, &[1])?;
+    let ring = Algebra::commuting(alloc, Field::of(101)?, order, 3)?;
+    Ok(ring.reordered(alloc, &t_first)?)
+}
+
+// Adds what a commit did.
+fn push_committed(text: &mut String, committed: Committed) -> Result<(), AllocError> {
+    match committed {
+        Committed::Added => text.push_str("Added; ")?,
+        Committed::Over(outcome) => write!(text, "Over {}; ", name_of(outcome))?,
+    }
+    Ok(())
+}
+
+// The jobs that wait, what so many commits do, and the entries after them.
+fn commits<L: Ledger>(
+    alloc: Global,
+    seat: &mut TableSeat,
+    lead: &mut Lead,
+    count: usize,
+    blank: Blank,
+) -> Result<String, Fail>
+    requires algebra { seat.old.algebra ≡ lead.old.algebra }
+    requires name { blank.name ≡ L.name }
+    requires parts { blank.parts ≡ L.parts }
+    requires some { 0 < blank.parts }
+{
+    let mut text = String::new(alloc);
+    let mut steps: Steps<L> = Steps::start(blank);
+    for job in &lead.ahead(alloc, 8)? {
+        push_job(&mut text, job)?;
+    }
+    text.push('\n')?;
+    for _ in 0..count {
+        let committed = lead.commit(alloc, seat, None, &mut steps)?;
+        push_committed(&mut text, committed)?;
+    }
+    text.push('\n')?;
+    push_entries(&mut text, lead.entries())?;
+    Ok(text)
+}
+
+// The same over the generators of a text.
+fn commits_text(
+    alloc: Global,
+    alg: &Algebra,
+    gens: &str,
+    budget: u32,
+    count: usize,
+) -> Result<String, Fail>
+    requires { 1 ≤ budget }
+{
+    let gens = polys(alloc, alg, gens)?;
+    if gens.len() > 4096 {
+        return Err("there are at most 4096 generators".into());
+    }
+    let table = Table::new(alloc, alg)?;
+    let mut seat = table.seat(alloc)?;
+    let mut lead = Lead::new(alloc, alg, &gens, Mode::Left, budget)?;
+    commits::<Brand>(alloc, &mut seat, &mut lead, count, Blank::new(1))
+}
+
+const MARKED: &str = " Seed 1 Seed 2
+Added; Added; 
+New Seed 1 times 100
+New Seed 2 100:100 by 1 100:010 by 1 times 100
+";
+
+#[test]
+fn reduces_the_second_seed_by_two_steps(rt: HostRuntime) -> Result<(), Fail> {
+    let alloc = rt.alloc();
+    let alg = marked(alloc)?;
+    let text = commits_text(alloc, &alg, "1:010 100:100, 1:001 100:200", 100, 2)?;
+    assert_eq!(rt; text.as_str(), MARKED);
+    Ok(())
+}
+
+const OVER: &str = " Seed 2 Seed 1
+Added; Over BudgetSpent; Over BudgetSpent; 
+New Seed 2 times 1
+";
+
+#[test]
+fn a_lead_that_is_over_answers_the_same_again(rt: HostRuntime) -> Result<(), Fail> {
+    let alloc = rt.alloc();
+    let alg = weyl(alloc)?;
+    let text = commits_text(alloc, &alg, "1:11, 1:02", 1, 3)?;
+    assert_eq!(rt; text.as_str(), OVER);
     Ok(())
 }

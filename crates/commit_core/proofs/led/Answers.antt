@@ -24,21 +24,21 @@ loop-lead-preserved g c =
       going = added.1 ∙ is.going;
       same = same-run c.args.lead old c.commit.new.self is.same added.0;
       run = λ first at. (
-        let here = is.run first at in
-        let next = run-on c.args.lead old c.commit.new.self is.same added here.0 here.1 in
-        (next.0, next.1, here.2 ∙ next.2)
-      );
+          let here = is.run first at in
+          let next = run-on c.args.lead old c.commit.new.self is.same added here.0 here.1 in
+          (next.0, next.1, here.2 ∙ next.2)
+          );
     }
 
 pub returns-in-Over : goal.returns-in-Over
 returns-in-Over g c = λ s at. (
-  let old : Run = c.loop-lead.lead in
-  let outcome = c.in-Over.field-0 in
-  let over : IsCommit old c.commit.new.self (Ok (Ended outcome)) =
-  subst (λ (r : Committed). IsCommit old c.commit.new.self (Ok r)) c.in-Over.is c.in_ok-commit.ensures.step in
-  let here = c.loop-lead.invariant.run s at in
-  c.into_journal.ensures outcome (ap (λ (run : Run). run.outcome) over.1)
-  ∙ ap (λ (run : Run). record { entries = run.entries; basis = run.basis; outcome = outcome }) over.1
-  ∙ run-over c.args.lead old outcome c.loop-lead.invariant.same over.0 here.0 here.1
-  ∙ sym here.2
-)
+    let old : Run = c.loop-lead.lead in
+    let outcome = c.in-Over.field-0 in
+    let over : IsCommit old c.commit.new.self (Ok (Ended outcome)) =
+    subst (λ (r : Committed). IsCommit old c.commit.new.self (Ok r)) c.in-Over.is c.in_ok-commit.ensures.step in
+    let here = c.loop-lead.invariant.run s at in
+    c.into_journal.ensures outcome (ap (λ (run : Run). run.outcome) over.1)
+    ∙ ap (λ (run : Run). record { entries = run.entries; basis = run.basis; outcome = outcome }) over.1
+    ∙ run-over c.args.lead old outcome c.loop-lead.invariant.same over.0 here.0 here.1
+    ∙ sym here.2
+    )

@@ -2,10 +2,10 @@
 
 ghost use Rattle.std.specs.Prelude.{◌≡◌, ◌≢◌, ◌<◌, ◌≤◌, ◌-◌, ◌++◌, IfOk, OnOk, [], length, nat_lt, if◌then◌else◌, not, vec_len, vec_capacity};
 ghost use Rattle.std.specs.Ordering.{ordering_then, is_lt};
-ghost use Rattle.monos.specs.Monomials.{degree};
-ghost use Rattle.monos.specs.Orders.{order_cmp};
-ghost use Rattle.monos.specs.Polynomials.{Each, HasVars, IsPolynomial};
-ghost use Rattle.monos.specs.Leading.{leading_monomial};
+ghost use Rattle.monomials.specs.Monomials.{degree};
+ghost use Rattle.monomials.specs.Orders.{order_cmp};
+ghost use Rattle.monomials.specs.Polynomials.{Each, HasVars, IsPolynomial};
+ghost use Rattle.monomials.specs.Leading.{leading_monomial};
 ghost use Rattle.word_model.specs.Reduction.{element, lead_divides};
 ghost use Rattle.word_model.specs.Jobs.{same_job, is_queued, without, pair_lcm, key_monomial, rank_of, rank_cmp, least_job, pair_queued, is_witness, chain_witness};
 ghost use Rattle.word_model.specs.Machine.{IsElement, pairs_with, rights_of, jobs_of};

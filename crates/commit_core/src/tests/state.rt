@@ -70,20 +70,22 @@ impl State {
     pub fn step<L: Ledger>(
         &mut self,
         alloc: Global,
+        alg: &Algebra,
         seat: &mut TableSeat,
         gens: &[GPoly],
         mode: Mode,
         budget: u32,
         steps: &mut Steps<L>,
     ) -> Result<Option<Outcome>, AllocError>
-        requires state { IsState seat.old.algebra gens.now self.old }
-        requires sorted { Each (IsPolynomial seat.old.algebra.p seat.old.algebra.order) gens.now }
+        requires algebra { seat.old.algebra ≡ alg.now }
+        requires state { IsState alg.now gens.now self.old }
+        requires sorted { Each (IsPolynomial alg.now.p alg.now.order) gens.now }
         requires few { length gens.now ≤ 4096 }
         ensures goes_on { IfOk result (λ end. end ≡ None →
-            step seat.old.algebra gens.now mode budget self.old ≡ On self.new) }
+            step alg.now gens.now mode budget self.old ≡ On self.new) }
         ensures ends { IfOk result (λ end. (outcome : _) → end ≡ Some outcome →
-            (step seat.old.algebra gens.now mode budget self.old ≡ Over outcome) × (self.new ≡ self.old)) }
-        ensures algebra { seat.new.algebra ≡ seat.old.algebra }
+            (step alg.now gens.now mode budget self.old ≡ Over outcome) × (self.new ≡ self.old)) }
+        ensures algebra { seat.new.algebra ≡ alg.now }
     {
         let Some((first, rest)) = self.queue.split_first() else {
             return Ok(Some(Outcome::Finished));
@@ -91,11 +93,10 @@ impl State {
         if budget as usize <= self.entries.len() {
             return Ok(Some(Outcome::BudgetSpent));
         }
-        let alg = seat.algebra();
         let job = queue::least_job(alg, gens, &self.basis, *first, rest);
         match queue::chain_witness(alg, gens, &self.basis, &self.queue, &job) {
             Some(by) => self.enter(job, Entry::Skipped { job, by }),
-            None => self.reduce_job(alloc, seat, gens, mode, job, steps),
+            None => self.reduce_job(alloc, alg, seat, gens, mode, job, steps),
         }
     }
 
@@ -112,21 +113,22 @@ impl State {
     fn reduce_job<L: Ledger>(
         &mut self,
         alloc: Global,
+        alg: &Algebra,
         seat: &mut TableSeat,
         gens: &[GPoly],
         mode: Mode,
         job: Job,
         steps: &mut Steps<L>,
     ) -> Result<Option<Outcome>, AllocError>
-        requires generators { Each (IsPolynomial seat.old.algebra.p seat.old.algebra.order) gens.now }
-        requires elements { Each (IsElement seat.old.algebra) self.old.basis }
+        requires algebra { seat.old.algebra ≡ alg.now }
+        requires generators { Each (IsPolynomial alg.now.p alg.now.order) gens.now }
+        requires elements { Each (IsElement alg.now) self.old.basis }
         requires few { length self.old.basis ≤ 2048 }
-        requires named { IsNamed seat.old.algebra gens.now self.old.basis job }
-        ensures turn { IsTurn (turn_of_start seat.old.algebra mode self.old job
-            (start_of seat.old.algebra gens.now self.old.basis job)) self.old self.new result }
-        ensures algebra { seat.new.algebra ≡ seat.old.algebra }
+        requires named { IsNamed alg.now gens.now self.old.basis job }
+        ensures turn { IsTurn (turn_of_start alg.now mode self.old job
+            (start_of alg.now gens.now self.old.basis job)) self.old self.new result }
+        ensures algebra { seat.new.algebra ≡ alg.now }
     {
-        let alg = seat.algebra();
         let start = match start_of(alloc, seat, &self.basis, gens, &job, steps) {
             Ok(start) => start,
             Err(ProductFault::DegreeOver) => return Ok(Some(Outcome::DegreeOver)),

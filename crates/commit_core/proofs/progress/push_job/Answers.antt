@@ -19,11 +19,11 @@ push-requires-clause-vars c =
 
 pub returns-clause-keys : goal.returns-clause-keys
 returns-clause-keys c = λ keys. (
-  let A = c.args.alg.now in
-  let G = c.args.basis.now.items in
-  let mono = c.job_key.ensures.mono A (elements-vars A G c.requires.elements) in
-  let key : HasKey A c.args.gens.now G c.job_key.result =
-  subst (λ job. c.job_key.result.mono ≡ key_monomial A c.args.gens.now G job) (sym c.job_key.ensures.job) mono in
-  subst (Each (HasKey A c.args.gens.now G)) (sym c.push.ensures.items)
-  (Each-with_item (HasKey A c.args.gens.now G) c.args.queue.now.order c.job_key.result c.args.queue.now.items key keys)
-)
+    let A = c.args.alg.now in
+    let G = c.args.basis.now.items in
+    let mono = c.job_key.ensures.mono A (elements-vars A G c.requires.elements) in
+    let key : HasKey A c.args.gens.now G c.job_key.result =
+    subst (λ job. c.job_key.result.mono ≡ key_monomial A c.args.gens.now G job) (sym c.job_key.ensures.job) mono in
+    subst (Each (HasKey A c.args.gens.now G)) (sym c.push.ensures.items)
+    (Each-with_item (HasKey A c.args.gens.now G) c.args.queue.now.order c.job_key.result c.args.queue.now.items key keys)
+    )

@@ -16,17 +16,17 @@ push_jobs-requires-clause-jobs c =
 
 pub returns-clause-keys : goal.returns-clause-keys
 returns-clause-keys c = λ keys. (
-  let A = c.args.alg.now in
-  let gens = c.args.gens.now in
-  let G : List Polynomial = c.args.self.now.basis.items in
-  let grown : c.push.new.self.items ≡ G ++ c.args.element ∷ [] = c.in_ok-push.ensures.items in
-  let rest = rest-is c.take_first.result c.reserve.new.self c.take_first.new.self c.take_first.ensures.first ∙ ap (drop 1) c.reserve.ensures.items in
-  let longer = keys-longer A gens G c.args.element c.args.self.now.queue.items c.requires.jobs keys in
-  let left = Each-rest (HasKey A gens (G ++ c.args.element ∷ [])) c.args.self.now.queue.items longer in
-  c.push_jobs.ensures.keys
-  (subst (λ (H : List Polynomial). Each (HasKey A gens H) c.take_first.new.self.items) (sym grown)
-  (subst (Each (HasKey A gens (G ++ c.args.element ∷ []))) (sym rest) left))
-)
+    let A = c.args.alg.now in
+    let gens = c.args.gens.now in
+    let G : List Polynomial = c.args.self.now.basis.items in
+    let grown : c.push.new.self.items ≡ G ++ c.args.element ∷ [] = c.in_ok-push.ensures.items in
+    let rest = rest-is c.take_first.result c.reserve.new.self c.take_first.new.self c.take_first.ensures.first ∙ ap (drop 1) c.reserve.ensures.items in
+    let longer = keys-longer A gens G c.args.element c.args.self.now.queue.items c.requires.jobs keys in
+    let left = Each-rest (HasKey A gens (G ++ c.args.element ∷ [])) c.args.self.now.queue.items longer in
+    c.push_jobs.ensures.keys
+    (subst (λ (H : List Polynomial). Each (HasKey A gens H) c.take_first.new.self.items) (sym grown)
+    (subst (Each (HasKey A gens (G ++ c.args.element ∷ []))) (sym rest) left))
+    )
 
 pub returns-clause-set : goal.returns-clause-set
 returns-clause-set c = subst (λ (items : List Keyed). IsSet (jobs_in items)) c.reserve.ensures.items c.take_first.ensures.facts.set

@@ -4,9 +4,9 @@ use Rattle.commit_core.proofs.tests.plain.plain_run.Given as goal
 
 abbrev pub invariant-loop-state : goal.invariant-loop-state
 invariant-loop-state g l = record {
-  is : IsState l.fn.seat.algebra l.gens l.state;
-  algebra : l.seat.algebra ≡ l.fn.seat.algebra;
-  run : machine l.fn.seat.algebra l.gens l.mode l.budget ≡ run_within l.fn.seat.algebra l.gens l.mode l.budget (suc (l.budget - length l.state.entries)) l.state;
+  is : IsState l.alg l.gens l.state;
+  algebra : l.seat.algebra ≡ l.alg;
+  run : machine l.alg l.gens l.mode l.budget ≡ run_within l.alg l.gens l.mode l.budget (suc (l.budget - length l.state.entries)) l.state;
 }
 
 abbrev pub decreases-loop-state : goal.decreases-loop-state

@@ -2,7 +2,7 @@ use Rattle.std.proofs.Common.{◌≡◌, ◌+◌, ◌∷◌, drop, get_or, sym, 
 use Rattle.gpoly.proofs.Lists.{Each-get_or}
 use Rattle.word_model.specs.Jobs.{least_job}
 use Rattle.word_model.specs.declared.records.Job.TheVariants.{Seed}
-use Rattle.commit_core.specs.declared.queue.Keyed.{Keyed}
+use Rattle.pair_strategy.specs.declared.keys.Keyed.{Keyed}
 use Rattle.commit_core.proofs.Queues.{IsKeyed, least_job-step}
 use Rattle.commit_core.proofs.tests.queue.least_job.Goals as goal
 
@@ -13,7 +13,7 @@ loop-job-preserved c =
     let G = c.args.basis.now in
     let i = c.loop-job.job-index in
     let job = get_or c.args.rest.now i (Seed 0) in
-    let other : Keyed = record { monomial = c.key_monomial-in-loop-job.result; job = job } in
+    let other : Keyed = record { mono = c.key_monomial-in-loop-job.result; job = job } in
     let keyed : IsKeyed A gens G other = record {
       key = c.key_monomial-in-loop-job.ensures.value;
       vars = c.key_monomial-in-loop-job.ensures.vars;

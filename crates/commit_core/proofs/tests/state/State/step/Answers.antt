@@ -8,7 +8,7 @@ use Rattle.commit_core.proofs.Turning.{is_empty, step-finished, step-spent, step
 use Rattle.commit_core.proofs.tests.state.State.step.Goals as goal
 
 pub returns-in_default-clause-ends : goal.returns-in_default-clause-ends
-returns-in_default-clause-ends c =
+returns-in_default-clause-ends g c =
     let empty : c.args.self.now.queue ≡ [] =
     ap (λ (s : State). s.queue) (sym c.self.view_is) ∙ sym c.deref.ensures.value ∙ is_empty c.deref.result.now c.in_default.ensures.cases
     in
@@ -16,7 +16,7 @@ returns-in_default-clause-ends c =
     λ outcome e. (over ∙ cc, refl)
 
 pub returns-then-budget-len-clause-ends : goal.returns-then-budget-len-clause-ends
-returns-then-budget-len-clause-ends c =
+returns-then-budget-len-clause-ends g c =
     let queue : c.args.self.now.queue ≡ c.in-Some.first.now ∷ c.in-Some.rest.now =
     ap (λ (s : State). s.queue) (sym c.self.view_is) ∙ sym c.deref.ensures.value ∙ c.in-Some.ensures.cases.0
     in
@@ -29,7 +29,7 @@ returns-then-budget-len-clause-ends c =
     λ outcome e. (over ∙ cc, refl)
 
 pub least_job-job-requires-clause-rest_named : goal.least_job-job-requires-clause-rest_named
-least_job-job-requires-clause-rest_named c =
+least_job-job-requires-clause-rest_named g c =
     let basis : c.deref-2.result.now ≡ c.args.self.now.basis = c.deref-2.ensures.value ∙ ap (λ (s : State). s.basis) c.self.view_is in
     let queue : c.args.self.now.queue ≡ c.in-Some.first.now ∷ c.in-Some.rest.now =
     ap (λ (s : State). s.queue) (sym c.self.view_is) ∙ sym c.deref.ensures.value ∙ c.in-Some.ensures.cases.0
@@ -38,7 +38,7 @@ least_job-job-requires-clause-rest_named c =
     subst (λ (G : List Polynomial). Each (IsNamed c.args.alg.now c.args.gens.now G) c.in-Some.rest.now) (sym basis) named.1
 
 pub returns-in-Some-chain_witness-clause-goes_on : goal.returns-in-Some-chain_witness-clause-goes_on
-returns-in-Some-chain_witness-clause-goes_on c =
+returns-in-Some-chain_witness-clause-goes_on g c =
     let s : State = c.args.self.now in
     let queue : s.queue ≡ c.in-Some.first.now ∷ c.in-Some.rest.now =
     ap (λ (s : State). s.queue) (sym c.self.view_is) ∙ sym c.deref.ensures.value ∙ c.in-Some.ensures.cases.0
@@ -58,7 +58,7 @@ returns-in-Some-chain_witness-clause-goes_on c =
     goes_on _ _ _ _ (subst (λ (t : Turn). IsTurn t s c.enter.new.self c.enter.result) (sym turn) c.enter.ensures)
 
 pub returns-in-None-clause-goes_on : goal.returns-in-None-clause-goes_on
-returns-in-None-clause-goes_on c =
+returns-in-None-clause-goes_on g c =
     let s : State = c.args.self.now in
     let queue : s.queue ≡ c.in-Some.first.now ∷ c.in-Some.rest.now =
     ap (λ (s : State). s.queue) (sym c.self.view_is) ∙ sym c.deref.ensures.value ∙ c.in-Some.ensures.cases.0
@@ -75,10 +75,10 @@ returns-in-None-clause-goes_on c =
     step-reduces c.args.alg.now c.args.gens.now c.args.mode c.args.budget s c.in-Some.first.now c.in-Some.rest.now c.least_job-job.result
     queue (omega arith) is found
     in
-    goes_on _ _ _ _ (subst (λ (t : Turn). IsTurn t s c.reduce_job.new.self c.reduce_job.result) (sym turn) c.reduce_job.ensures)
+    goes_on _ _ _ _ (subst (λ (t : Turn). IsTurn t s c.reduce_job.new.self c.reduce_job.result) (sym turn) c.reduce_job.ensures.turn)
 
 pub returns-in-None-clause-ends : goal.returns-in-None-clause-ends
-returns-in-None-clause-ends c =
+returns-in-None-clause-ends g c =
     let s : State = c.args.self.now in
     let queue : s.queue ≡ c.in-Some.first.now ∷ c.in-Some.rest.now =
     ap (λ (s : State). s.queue) (sym c.self.view_is) ∙ sym c.deref.ensures.value ∙ c.in-Some.ensures.cases.0
@@ -95,4 +95,4 @@ returns-in-None-clause-ends c =
     step-reduces c.args.alg.now c.args.gens.now c.args.mode c.args.budget s c.in-Some.first.now c.in-Some.rest.now c.least_job-job.result
     queue (omega arith) is found
     in
-    ends _ _ _ _ (subst (λ (t : Turn). IsTurn t s c.reduce_job.new.self c.reduce_job.result) (sym turn) c.reduce_job.ensures)
+    ends _ _ _ _ (subst (λ (t : Turn). IsTurn t s c.reduce_job.new.self c.reduce_job.result) (sym turn) c.reduce_job.ensures.turn)

@@ -3,11 +3,8 @@ pub mod Texts
 pub mod Letters
 pub mod ProductLists
 pub mod Values
-pub mod Monomials
 pub mod Scripted
 pub mod Runs
 pub mod Relations
 pub mod Products
 pub mod Bases
-pub mod Finishing
-pub mod Tails

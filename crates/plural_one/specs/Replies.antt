@@ -24,7 +24,7 @@ given Form = record { text = line (codes "? Form"); status = 1 }
 given (Characteristic text) = record { text = string_bytes text; status = 1 }
 given Coefficient = record { text = line (codes "? line 2: Coefficient 1 2"); status = 3 }
 given (Refused text) = record { text = string_bytes text; status = 4 }
-given (Text text) = record { text = string_bytes text; status = 0 }
+given (Text text) = record { text = text.items; status = 0 }
 
 -- the status of a run that stopped before its answer
 abbrev pub stopped_status : Stopped → ℕ

@@ -1,43 +1,48 @@
 //! What a script is answered that asks for a basis.
 
-ghost use Rattle.std.specs.Prelude.{◌≡◌, ◌≤◌, ◌++◌, length, map, take, codes, string_bytes, IfOk};
+ghost use Rattle.std.specs.Prelude.{◌≡◌, ◌≤◌, ◌++◌, length, map, codes, string_bytes, IfOk};
 ghost use Rattle.monomials.specs.Polynomials.{Each, IsPolynomial};
 ghost use Rattle.word_model.specs.Products.{letters_product};
 ghost use Rattle.word_model.specs.Machine.{IsElement, most_elements};
 ghost use Rattle.word_model.specs.Finished.{finished};
 ghost use Rattle.word_model.specs.Answers.{list_answer, refused};
+ghost use Rattle.word_model.specs.declared.records.Outcome.TheVariants.{Finished as Ended};
 ghost use Rattle.plural_one.specs.Readings.{IsScriptWord};
 ghost use Rattle.plural_one.specs.Replies.{given, basis_answer};
 
-use crate::finish;
-use crate::product::letters_product;
+use crate::product::{letters_product, variable_names};
 use crate::run::Reply;
-use crate::text::ideal_text;
-use algebra::{Algebra, ProductFault};
+use algebra::ProductFault;
 use commit_core::OneWorker;
+use finish::reduced;
 use gpoly::GPoly;
-use run_records::{Engine, Mode, Outcome};
+use gproduct::{Steps, TableSeat};
+use plural_text::ideal_text;
+use run_records::{Engine, Journal, Mode, Outcome};
 use std::alloc::{AllocError, Global};
+use std::sync::ledger::Ledger;
 
 /// The most entries that a run may have.
 const BUDGET: u32 = 100000;
 
 /// The reply to a request for the left Gröbner basis of the products of these letters.
-pub fn reply_to_basis(
+pub fn reply_to_basis<L: Ledger>(
     alloc: Global,
-    algebra: &Algebra,
+    seat: &mut TableSeat,
     words: &[Vec<u8>],
+    steps: &mut Steps<L>,
 ) -> Result<Reply, AllocError>
-    requires vars { algebra.now.order.vars ≡ 2 }
+    requires vars { seat.old.algebra.order.vars ≡ 2 }
     requires words { Each IsScriptWord (map (λ w. w.items) words.now) }
     requires few { length words.now ≤ 8 }
-    ensures { IfOk result (λ reply. given reply ≡ basis_answer algebra.now (map (λ w. w.items) words.now)) }
+    ensures { IfOk result (λ reply. given reply ≡ basis_answer seat.old.algebra (map (λ w. w.items) words.now)) }
 {
+    let algebra = seat.algebra();
     let _n = algebra.n();
-    let generators = products(alloc, algebra, words)?;
+    let generators = products(alloc, seat, words, steps)?;
     let run = OneWorker::new().basis(alloc, algebra, &generators, Mode::Left, BUDGET)?;
     match run.outcome {
-        Outcome::Finished => reply_to_list(alloc, algebra, &run.basis),
+        Outcome::Finished => reply_to_list(alloc, seat, &run, steps),
         Outcome::BudgetSpent => {
             let word = format!(in alloc; "BudgetSpent {BUDGET}")?;
             refusal(alloc, word.as_str())
@@ -48,30 +53,44 @@ pub fn reply_to_basis(
 }
 
 // The products of the letters of each word.
-fn products(alloc: Global, algebra: &Algebra, words: &[Vec<u8>]) -> Result<Vec<GPoly>, AllocError>
-    requires vars { algebra.now.order.vars ≡ 2 }
+fn products<L: Ledger>(
+    alloc: Global,
+    seat: &mut TableSeat,
+    words: &[Vec<u8>],
+    steps: &mut Steps<L>,
+) -> Result<Vec<GPoly>, AllocError>
+    requires vars { seat.old.algebra.order.vars ≡ 2 }
     requires words { Each IsScriptWord (map (λ w. w.items) words.now) }
-    ensures values { IfOk result (λ fs. fs.items ≡ map (letters_product algebra.now) (map (λ w. w.items) words.now)) }
-    ensures polynomials { IfOk result (λ fs. Each (IsPolynomial algebra.now.p algebra.now.order) fs.items) }
+    ensures values { IfOk result (λ fs. fs.items ≡ map (letters_product seat.old.algebra) (map (λ w. w.items) words.now)) }
+    ensures polynomials { IfOk result (λ fs. Each (IsPolynomial seat.old.algebra.p seat.old.algebra.order) fs.items) }
+    ensures algebra { seat.new.algebra ≡ seat.old.algebra }
 {
     let mut products = Vec::new(alloc);
     for word in words {
-        products.push(letters_product(alloc, algebra, word)?)?;
+        products.push(letters_product(alloc, seat, word, steps)?)?;
     }
     Ok(products)
 }
 
-// The reply to a run that found this basis.
-fn reply_to_list(alloc: Global, algebra: &Algebra, basis: &Vec<GPoly>) -> Result<Reply, AllocError>
-    requires vars { algebra.now.order.vars ≡ 2 }
-    requires elements { Each (IsElement algebra.now) basis.now.items }
-    requires few { length basis.now.items ≤ most_elements }
-    ensures { IfOk result (λ reply. given reply ≡ list_answer algebra.now (finished algebra.now basis.now.items)) }
+// The reply to a run that is finished.
+fn reply_to_list<L: Ledger>(
+    alloc: Global,
+    seat: &mut TableSeat,
+    run: &Journal,
+    steps: &mut Steps<L>,
+) -> Result<Reply, AllocError>
+    requires vars { seat.old.algebra.order.vars ≡ 2 }
+    requires finished { run.now.outcome ≡ Ended }
+    requires elements { Each (IsElement seat.old.algebra) run.now.basis }
+    requires few { length run.now.basis ≤ most_elements }
+    ensures { IfOk result (λ reply. given reply ≡ list_answer seat.old.algebra (finished seat.old.algebra run.now.basis)) }
 {
+    let algebra = seat.algebra();
     let _n = algebra.n();
-    match finish::reduced(alloc, algebra, basis) {
+    match reduced(alloc, seat, run, steps) {
         Ok(finished) => {
-            let text = ideal_text(alloc, algebra.field(), &["x", "d"], "_", &finished.list)?;
+            let names = variable_names(alloc)?;
+            let text = ideal_text(alloc, algebra, &names, b"_", &finished.list)?;
             Ok(Reply::Text(text))
         }
         Err(ProductFault::DegreeOver) => refusal(alloc, "DegreeOver"),

@@ -3,11 +3,9 @@
 #![tactic(auto)]
 
 mod basis;
-mod finish;
 mod product;
 mod run;
 mod script;
-mod text;
 
 use plural_io::{StdSink, StdSource};
 use run::{NO_MEMORY, run_one};

@@ -1,16 +1,19 @@
 //! Algebras of x and d, and products of letters.
 
-ghost use Rattle.std.specs.Prelude.{◌≡◌, ◌≢◌, ◌+◌, ◌%◌, ◌<◌, ◌≤◌, length, IfOk, MatchOption};
+ghost use Rattle.std.specs.Prelude.{◌≡◌, ◌≢◌, ◌+◌, ◌%◌, ◌<◌, ◌≤◌, length, map, string_bytes, IfOk, MatchOption};
 ghost use Rattle.monomials.specs.Polynomials.{IsPolynomial, poly_degree};
 ghost use Rattle.word_model.specs.Words.{IsWord};
 ghost use Rattle.word_model.specs.Products.{product, variable_polynomial, letters_product};
 ghost use Rattle.word_model.specs.Scripts.{two_variables};
+ghost use Rattle.word_model.specs.Answers.{script_names};
 
 use algebra::{Algebra, AlgebraFault, ProductFault, Relations};
 use gpoly::{GPoly, Term};
+use gproduct::{Steps, TableSeat, right_times};
 use monomials::{Block, Expo, Order, OrderFault};
 use prime_field::Field;
 use std::alloc::{AllocError, Global};
+use std::sync::ledger::Ledger;
 
 #[cfg(test)]
 mod tests;
@@ -73,21 +76,32 @@ fn one_relation(
     Ok(Relations { c, d })
 }
 
+/// The names of the two variables.
+pub fn variable_names(alloc: Global) -> Result<Vec<String>, AllocError>
+    ensures { IfOk result (λ names. map string_bytes names.items ≡ script_names) }
+{
+    let x = String::from_str(alloc, "x")?;
+    let d = String::from_str(alloc, "d")?;
+    Ok(Vec::from_array(alloc, [x, d])?)
+}
+
 /// The product of the letters, which are numbers of variables, multiplied from left to right.
-pub fn letters_product(
+pub fn letters_product<L: Ledger>(
     alloc: Global,
-    algebra: &Algebra,
+    seat: &mut TableSeat,
     letters: &[u8],
+    steps: &mut Steps<L>,
 ) -> Result<GPoly, AllocError>
-    requires letters { IsWord algebra.now.order.vars letters.now }
+    requires letters { IsWord seat.old.algebra.order.vars letters.now }
     requires some { 1 ≤ length letters.now }
     requires few { length letters.now ≤ 4095 }
-    ensures value { IfOk result (λ r. r ≡ letters_product algebra.now letters.now) }
-    ensures polynomial { IfOk result (λ r. IsPolynomial algebra.now.p algebra.now.order r) }
+    ensures value { IfOk result (λ r. r ≡ letters_product seat.old.algebra letters.now) }
+    ensures polynomial { IfOk result (λ r. IsPolynomial seat.old.algebra.p seat.old.algebra.order r) }
+    ensures algebra { seat.new.algebra ≡ seat.old.algebra }
 {
-    let mut product = variable(alloc, algebra, letters[0])?;
+    let mut product = variable(alloc, seat.algebra(), letters[0])?;
     for letter in &letters[1..] {
-        product = times_letter(alloc, algebra, &product, *letter)?;
+        product = times_letter(alloc, seat, &product, *letter, steps)?;
     }
     Ok(product)
 }
@@ -108,23 +122,24 @@ fn variable(alloc: Global, algebra: &Algebra, letter: u8) -> Result<GPoly, Alloc
 }
 
 // The product by the variable with this number.
-fn times_letter(
+fn times_letter<L: Ledger>(
     alloc: Global,
-    algebra: &Algebra,
+    seat: &mut TableSeat,
     f: &GPoly,
     letter: u8,
+    steps: &mut Steps<L>,
 ) -> Result<GPoly, AllocError>
     requires first { 1 ≤ letter }
-    requires last { letter ≤ algebra.now.order.vars }
-    requires polynomial { IsPolynomial algebra.now.p algebra.now.order f.now }
+    requires last { letter ≤ seat.old.algebra.order.vars }
+    requires polynomial { IsPolynomial seat.old.algebra.p seat.old.algebra.order f.now }
     requires small { poly_degree f.now < 4095 }
-    ensures value { IfOk result (λ r. r ≡ product algebra.now f.now (variable_polynomial algebra.now letter)) }
-    ensures polynomial { IfOk result (λ r. IsPolynomial algebra.now.p algebra.now.order r) }
+    ensures value { IfOk result (λ r. r ≡ product seat.old.algebra f.now (variable_polynomial seat.old.algebra letter)) }
+    ensures polynomial { IfOk result (λ r. IsPolynomial seat.old.algebra.p seat.old.algebra.order r) }
     ensures degree { IfOk result (λ r. poly_degree r ≤ poly_degree f.now + 1) }
+    ensures algebra { seat.new.algebra ≡ seat.old.algebra }
 {
-    let _n = algebra.n();
-    let variable = variable(alloc, algebra, letter)?;
-    match algebra.plain_product(alloc, f, &variable) {
+    let _n = seat.algebra().n();
+    match right_times(alloc, seat, f, letter, steps) {
         Ok(product) => Ok(product),
         Err(ProductFault::Memory) => Err(AllocError),
         Err(ProductFault::DegreeOver) => unreachable!(),

@@ -9,13 +9,16 @@ ghost use Rattle.plural_one.specs.Replies.{given, stopped_status, fault_reply, p
 ghost use Rattle.plural_one.specs.Runs.{IsRun, IsUndisturbed};
 
 use crate::basis::reply_to_basis;
-use crate::product::{letters_product, two_variables};
+use crate::product::{letters_product, two_variables, variable_names};
 use crate::script::{self, Request, Script};
-use crate::text::polynomial_text;
 use algebra::Algebra;
+use gproduct::{Steps, Table, TableSeat};
 use plural_io::{ReadAllFault, Sink, Source, read_all, write_all_of};
+use plural_text::poly_text;
 use prime_field::Field;
 use std::alloc::{AllocError, Global};
+use std::marker::Brand;
+use std::sync::ledger::{Blank, Ledger};
 
 #[cfg(test)]
 mod tests;
@@ -52,7 +55,7 @@ pub enum Reply {
     /// The line that refuses what the script asks for.
     Refused(String),
     /// The text of what the script asks for.
-    Text(String),
+    Text(Vec<u8>),
 }
 
 impl Reply {
@@ -64,8 +67,8 @@ impl Reply {
             Reply::TooLong => TOO_LONG,
             Reply::Form => FORM,
             Reply::Coefficient => COEFFICIENT,
-            Reply::Characteristic(text) | Reply::Refused(text) | Reply::Text(text) =>
-                text.as_bytes(),
+            Reply::Characteristic(text) | Reply::Refused(text) => text.as_bytes(),
+            Reply::Text(text) => text,
         }
     }
 
@@ -209,20 +212,50 @@ fn reply_to_request(
     requires request { IsScriptRequest (kept_words request.now) }
     ensures { IfOk result (λ reply. given reply ≡ words_answer algebra.now (kept_words request.now)) }
 {
+    counted_reply::<Brand>(alloc, algebra, request, Blank::new(1))
+}
+
+// The same, with the products that it takes counted on the blank.
+fn counted_reply<L: Ledger>(
+    alloc: Global,
+    algebra: &Algebra,
+    request: &Request,
+    blank: Blank,
+) -> Result<Reply, AllocError>
+    requires vars { algebra.now.order.vars ≡ 2 }
+    requires request { IsScriptRequest (kept_words request.now) }
+    requires name { blank.name ≡ L.name }
+    requires parts { blank.parts ≡ L.parts }
+    requires some { 0 < blank.parts }
+    ensures { IfOk result (λ reply. given reply ≡ words_answer algebra.now (kept_words request.now)) }
+{
+    let table = Table::new(alloc, algebra)?;
+    let mut seat = table.seat(alloc)?;
+    let mut steps = Steps::<L>::start(blank);
     match request {
-        Request::Product(letters) => Ok(Reply::Text(product_line(alloc, algebra, letters)?)),
-        Request::Basis(words) => reply_to_basis(alloc, algebra, words),
+        Request::Product(letters) => {
+            let line = product_line(alloc, &mut seat, letters, &mut steps)?;
+            Ok(Reply::Text(line))
+        }
+        Request::Basis(words) => reply_to_basis(alloc, &mut seat, words, &mut steps),
     }
 }
 
 // The line of the product of the letters.
-fn product_line(alloc: Global, algebra: &Algebra, letters: &[u8]) -> Result<String, AllocError>
-    requires vars { algebra.now.order.vars ≡ 2 }
+fn product_line<L: Ledger>(
+    alloc: Global,
+    seat: &mut TableSeat,
+    letters: &[u8],
+    steps: &mut Steps<L>,
+) -> Result<Vec<u8>, AllocError>
+    requires vars { seat.old.algebra.order.vars ≡ 2 }
     requires word { IsScriptWord letters.now }
-    ensures { IfOk result (λ text. string_bytes text ≡ product_text algebra.now letters.now) }
+    ensures { IfOk result (λ text. text.items ≡ product_text seat.old.algebra letters.now) }
 {
-    let product = letters_product(alloc, algebra, letters)?;
-    let mut text = polynomial_text(alloc, algebra.field(), &["x", "d"], &product)?;
-    text.push('\n')?;
+    let algebra = seat.algebra();
+    let product = letters_product(alloc, seat, letters, steps)?;
+    let names = variable_names(alloc)?;
+    let mut text = poly_text(alloc, algebra, &names, &product)?;
+    text.push(b'\n')?;
     Ok(text)
 }

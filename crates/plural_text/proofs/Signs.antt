@@ -120,7 +120,7 @@ positive_starts p c names m above small below half are =
                   | inl last ↦ let is : c ≡ p - 1 = eqb-true c (p - 1) last in absurd (omega arith)
                   | inr inner ↦ rw (some, other, inner)
                       (first-append (number_text p c ++ codes "*") (monomial_text names m)
-                          (first-append (number_text p c) (codes "*") (digit_first p c (omega arith) lower)))
+                      (first-append (number_text p c) (codes "*") (digit_first p c (omega arith) lower)))
                 ]
           ]
     ]

@@ -11,4 +11,3 @@ mod rings;
 pub use printing::{ideal_text, poly_text, rows_text};
 pub use reading::{ReadFault, read_poly};
 pub use rings::ring_text;
-

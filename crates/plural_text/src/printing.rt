@@ -13,6 +13,9 @@ use gpoly::GPoly;
 use run_records::Row;
 use std::alloc::{AllocError, Global};
 
+#[cfg(test)]
+mod tests;
+
 /// The text of a polynomial in variables of these names: its terms in descending order, with numbers
 /// from the symmetric range.
 pub fn poly_text(

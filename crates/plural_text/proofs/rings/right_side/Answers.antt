@@ -34,8 +34,8 @@ returns-clause-value c =
     λ zero. c.n-n.ensures.accepted.regular.nonzero c.args.i c.args.j c.requires.first c.requires.pair c.requires.last (ap (λ k. k % A.p) zero) in
     IfOk-weaker c.add.result _ _
     (λ r is. is ∙ right_side-made A c.args.i c.args.j _ _ _ _ c.c.result c.plus.result c.in_ok-leading.leading c.d.result.now
-        c.order.ensures c.order-2.ensures c.field.ensures c.field-2.ensures c.c.ensures
-        (pair_made A.order.vars c.n-n.result c.args.i c.args.j c.var.result c.var-2.result c.plus.result c.n-n.ensures.value c.var.ensures c.var-2.ensures c.plus.ensures)
-        c.in_ok-leading.ensures.value c.d.ensures
-        (c_of-below A c.n-n.ensures.data (omega (arith, c.n-n.ensures.prime.above_one)) c.args.i c.args.j) nonzero)
+    c.order.ensures c.order-2.ensures c.field.ensures c.field-2.ensures c.c.ensures
+    (pair_made A.order.vars c.n-n.result c.args.i c.args.j c.var.result c.var-2.result c.plus.result c.n-n.ensures.value c.var.ensures c.var-2.ensures c.plus.ensures)
+    c.in_ok-leading.ensures.value c.d.ensures
+    (c_of-below A c.n-n.ensures.data (omega (arith, c.n-n.ensures.prime.above_one)) c.args.i c.args.j) nonzero)
     c.add.ensures.value

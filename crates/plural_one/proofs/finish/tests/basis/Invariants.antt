@@ -1,7 +1,0 @@
-use Rattle.monomials.specs.Polynomials.{Each}
-use Rattle.word_model.specs.Machine.{IsElement}
-use Rattle.plural_one.proofs.finish.tests.basis.Given as goal
-
--- all so far are elements
-abbrev pub invariant-loop-piece : goal.invariant-loop-piece
-invariant-loop-piece l = Each (IsElement l.algebra) l.basis.items

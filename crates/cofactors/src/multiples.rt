@@ -95,7 +95,14 @@ pub(crate) fn subtract<L: Ledger>(
     ensures kept { Keeps seat.old seat.new }
 {
     for place in 0..entries.len() {
-        subtract_one(alloc, seat, &mut entries[place], term, &others[place], steps)?;
+        subtract_one(
+            alloc,
+            seat,
+            &mut entries[place],
+            term,
+            &others[place],
+            steps,
+        )?;
     }
     Ok(())
 }

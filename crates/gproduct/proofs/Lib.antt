@@ -8,7 +8,3 @@ pub mod TwoPowers
 pub mod PlainValue
 pub mod ClosedTerms
 pub mod Known
-mod SortedWords
-mod Stacks
-mod Swaps
-mod MultipliedOut

@@ -2,9 +2,7 @@
 //! may share.
 #![tactic(auto)]
 
-mod kinds;
 mod front;
-mod multiplying;
 mod kinds;
 mod multiplying;
 mod parts;

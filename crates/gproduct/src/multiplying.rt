@@ -104,13 +104,7 @@ fn sorted_terms(
         match join_front(n, &mut factors) {
             Front::Sorted(mono) => sorted.push(Term { coef, mono })?,
             Front::Crossed(crossing) => push_swapped(
-                alloc,
-                seat,
-                pending,
-                &mut terms,
-                coef,
-                &crossing,
-                &factors,
+                alloc, seat, pending, &mut terms, coef, &crossing, &factors,
             )?,
         }
     }

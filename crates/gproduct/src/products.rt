@@ -25,11 +25,7 @@ use std::sync::ledger::Ledger;
 const DEGREE_LIMIT: u32 = 4095;
 
 // Adds the products of `mono` with each of the terms behind it.
-fn push_before(
-    pending: &mut Pending,
-    mono: &Expo,
-    terms: &[Term],
-) -> Result<(), AllocError>
+fn push_before(pending: &mut Pending, mono: &Expo, terms: &[Term]) -> Result<(), AllocError>
     requires { factor_count pending.old.open.items ≡ length pending.old.factors.items }
     ensures counted { OnOk result (factor_count pending.new.open.items ≡ length pending.new.factors.items) }
     ensures products { OnOk result (products_in pending.new.open.items pending.new.factors.items
@@ -43,11 +39,7 @@ fn push_before(
 }
 
 // Adds the products of each of the terms with `mono` behind it.
-fn push_behind(
-    pending: &mut Pending,
-    terms: &[Term],
-    mono: &Expo,
-) -> Result<(), AllocError>
+fn push_behind(pending: &mut Pending, terms: &[Term], mono: &Expo) -> Result<(), AllocError>
     requires { factor_count pending.old.open.items ≡ length pending.old.factors.items }
     ensures counted { OnOk result (factor_count pending.new.open.items ≡ length pending.new.factors.items) }
     ensures products { OnOk result (products_in pending.new.open.items pending.new.factors.items

@@ -2,8 +2,8 @@
 #![tactic(auto)]
 
 mod appending;
-mod polynomials;
 pub mod laws;
+mod polynomials;
 mod printing;
 mod reading;
 mod rings;

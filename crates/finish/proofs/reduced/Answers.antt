@@ -26,7 +26,7 @@ returns-in_err-finals-clause-over g c =
     let A = c.args.seat.now.algebra in
     let p = err_from_is_err_and c.from_residual-in_err-finals.result c.from_residual-in_err-finals.ensures.1 in
     λ e. subst (λ (J : Journal). finished A J.basis ≡ None) c.journal.view_is
-        (finished-none A c.journal.inside.basis.items _ c.in_ok-kept.ensures (c.in_err-finals.ensures.over (met_fault _ p.0 _ _ p.1 p.2 e)))
+    (finished-none A c.journal.inside.basis.items _ c.in_ok-kept.ensures (c.in_err-finals.ensures.over (met_fault _ p.0 _ _ p.1 p.2 e)))
 
 pub returns-clause-list : goal.returns-clause-list
 returns-clause-list g c =

@@ -16,10 +16,9 @@ loop-place-preserved g c =
     let same : l.seat.algebra ≡ A = l.invariant.3 in
     let after = c.add_final.new.finals.items in
     let value : add_final A K (l.place - 1 + 1) (Some l.finals.items) ≡ Some after =
-    subst (λ (B : Algebra). add_final B K (l.place - 1 + 1) (Some l.finals.items) ≡ Some after) same c.in_ok-add_final.ensures.value in
-    (
+    subst (λ (B : Algebra). add_final B K (l.place - 1 + 1) (Some l.finals.items) ≡ Some after) same c.in_ok-add_final.ensures.value in (
       has_finals-next A K l.place (l.place - 1 + 1) (l.place - 1) l.finals.items after (omega (arith, c.loop-place-test.true)) l.invariant.2
-      (omega (arith, c.loop-place-test.true)) (omega arith) l.invariant.0 value,
+          (omega (arith, c.loop-place-test.true)) (omega arith) l.invariant.0 value,
       subst (λ (B : Algebra). Each (λ (x : Final). IsElement B x.polynomial) after) same c.in_ok-add_final.ensures.finals,
       omega (arith, l.invariant.2),
       c.add_final.ensures.algebra ∙ same,
@@ -33,5 +32,5 @@ returns-in_err-add_final-clause-over g c =
     let p = err_from_is_err_and c.from_residual.result c.from_residual.ensures.1 in
     let l = c.loop-place in
     λ e. has_finals-over A K l.place (l.place - 1 + 1) l.finals.items
-        (omega (arith, c.loop-place-test.true)) l.invariant.2 (omega (arith, c.loop-place-test.true)) l.invariant.0
-        (subst (λ (B : Algebra). add_final B K (l.place - 1 + 1) (Some l.finals.items) ≡ None) l.invariant.3 (c.in_err-add_final.ensures.over (met_fault _ p.0 _ _ p.1 p.2 e)))
+    (omega (arith, c.loop-place-test.true)) l.invariant.2 (omega (arith, c.loop-place-test.true)) l.invariant.0
+    (subst (λ (B : Algebra). add_final B K (l.place - 1 + 1) (Some l.finals.items) ≡ None) l.invariant.3 (c.in_err-add_final.ensures.over (met_fault _ p.0 _ _ p.1 p.2 e)))

@@ -73,7 +73,12 @@ returns-clause-products c =
       terms = refl;
     } in
     on_ok_weaker c.push_each.result
-    (λ is. (added, (swap,
-    is ∙ (λ i. products_in c.args.pending.now.open.items c.args.pending.now.factors.items
-    ++ map (λ t. ((k * t.0) % prime i, c.args.tail.now ++ (right i ∷ t.1 ∷ left i ∷ []))) (terms i)))))
+    (λ is. (
+      added,
+      (
+        swap,
+        is ∙ (λ i. products_in c.args.pending.now.open.items c.args.pending.now.factors.items
+            ++ map (λ t. ((k * t.0) % prime i, c.args.tail.now ++ (right i ∷ t.1 ∷ left i ∷ []))) (terms i)),
+      ),
+    ))
     c.push_each.ensures.products

@@ -1,5 +1,5 @@
 -- The terms of closed forms: their exponents, and what they are in an algebra.
-use Rattle.std.proofs.Common.{◌≡◌, ℕ, zero, suc, ◌+◌, ◌-◌, ◌*◌, ◌%◌, ◌^◌, ◌<◌, ◌≤◌, min, List, [], ◌∷◌, ◌++◌, map, replicate, refl, sym, ap, ◌∙◌, subst, arith, mod-eq_of_lt}
+use Rattle.std.proofs.Common.{◌≡◌, ℕ, zero, suc, ◌+◌, ◌-◌, ◌*◌, ◌%◌, ◌^◌, ◌<◌, ◌≤◌, min, List, [], ◌∷◌, ◌++◌, map, replicate, refl, ap, arith, mod-eq_of_lt}
 use Rattle.monomials.specs.Monomials.{degree}
 use Rattle.monomials.specs.Polynomials.{Each, HasNumbers, HasVars, cons_nonzero}
 use Rattle.monomials.proofs.Insertion.{cons_nonzero_cases}

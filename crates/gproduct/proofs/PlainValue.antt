@@ -1,5 +1,5 @@
 -- The product of two monomials is the normal form of their sorted words, one after the other.
-use Rattle.std.proofs.Common.{◌≡◌, ℕ, ◌+◌, ◌<◌, ◌≤◌, max, nat_le, false, [], ◌∷◌, ◌++◌, refl, sym, ap, ◌∙◌, arith}
+use Rattle.std.proofs.Common.{◌≡◌, ◌+◌, ◌<◌, ◌≤◌, max, nat_le, false, [], ◌∷◌, ◌++◌, sym, ◌∙◌, arith}
 use Rattle.std.proofs.lemmas.Bool.Decides.{nat_tests}
 use Rattle.monomials.specs.Monomials.{Monomial, degree}
 use Rattle.monomials.specs.Polynomials.{Polynomial}

@@ -1,11 +1,10 @@
 -- The monomial of two powers, by its exponents and by its word.
-use Rattle.std.proofs.Common.{◌≡◌, ◌≢◌, ℕ, zero, suc, ◌+◌, ◌-◌, ◌<◌, ◌≤◌, ◌⊎◌, inl, inr, List, [], ◌∷◌, ◌++◌, length, take, set, get_or, replicate, refl, sym, ap, ◌∙◌, arith, get_or-set_same, get_or-set_other, append-nil, length-append}
+use Rattle.std.proofs.Common.{◌≡◌, ◌≢◌, ℕ, zero, suc, ◌+◌, ◌-◌, ◌<◌, ◌≤◌, ◌⊎◌, inl, inr, List, [], ◌∷◌, ◌++◌, length, take, set, get_or, replicate, refl, sym, ap, ◌∙◌, arith, get_or-set_same, get_or-set_other, length-append}
 use Rattle.std.proofs.Math.ListN.{length-set, length-replicate}
 use Rattle.monomials.specs.Monomials.{degree}
-use Rattle.monomials.specs.Polynomials.{Each}
 use Rattle.monomials.proofs.Keys.{Each-append}
 use Rattle.word_model.specs.Words.{Word, IsWord, count_of, counts_from, monomial_of, sorted_word}
-use Rattle.word_model.proofs.Letters.{count_of-append, count_of-same, count_of-other, degree-monomial_of, length-counts_from}
+use Rattle.word_model.proofs.Letters.{count_of-append, count_of-same, count_of-other, degree-monomial_of}
 use Rattle.word_model.proofs.Sorted.{sorted_word-monomial_of}
 use Rattle.closed_forms.proofs.Passing.{power_is_word, sorted_xy}
 

@@ -1,4 +1,4 @@
-use Rattle.std.proofs.Common.{◌≡◌, ◌+◌, ◌-◌, ◌*◌, ◌/◌, ◌%◌, ◌<◌, ◌≤◌, List, Option, Some, None, IfSome, slice_index_or, ℕ, refl, sym, arith}
+use Rattle.std.proofs.Common.{◌≡◌, ◌+◌, ◌-◌, ◌*◌, ◌/◌, ◌%◌, ◌<◌, ◌≤◌, List, Option, Some, None, IfSome, slice_index_or, ℕ, sym, arith}
 use Rattle.word_model.specs.Words.{Algebra}
 use Rattle.closed_forms.specs.declared.PairKind.{PairKind}
 use Rattle.closed_forms.specs.Kinds.{HasKind}

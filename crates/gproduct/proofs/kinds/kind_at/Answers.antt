@@ -1,9 +1,9 @@
-use Rattle.std.proofs.Common.{◌≡◌, ◌↔◌, ◌<◌, ◌≤◌, Option, Some, None, IfSome, ℕ, length, refl, sym, subst, arith}
+use Rattle.std.proofs.Common.{◌≡◌, ◌<◌, ◌≤◌, Option, Some, None, IfSome, ℕ, refl, sym, subst, arith}
 use Rattle.monomials.specs.Polynomials.{Polynomial, HasVars, IsPolynomial}
 use Rattle.monomials.proofs.Keys.{Each-weaker}
 use Rattle.monomials.proofs.Operations.{HasNumbers-polynomial}
 use Rattle.word_model.specs.Words.{Algebra, c_of, d_of}
-use Rattle.word_model.proofs.Acceptance.{c_of-below, IsPolynomial-d_of}
+use Rattle.word_model.proofs.Acceptance.{IsPolynomial-d_of}
 use Rattle.closed_forms.specs.declared.PairKind.{PairKind}
 use Rattle.closed_forms.specs.Kinds.{IsOfKind, HasKind}
 use Rattle.gproduct.proofs.kinds.kind_at.Goals as goal

@@ -1,4 +1,4 @@
-use Rattle.std.proofs.Common.{◌≡◌, sym, subst}
+use Rattle.std.proofs.Common.{sym, subst}
 use Rattle.std.proofs.lemmas.Result.{IfOk-weaker}
 use Rattle.prime_field.specs.Modular.{IsPrime}
 use Rattle.monomials.specs.Polynomials.{IsPolynomial}

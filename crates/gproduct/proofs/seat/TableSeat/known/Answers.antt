@@ -1,10 +1,9 @@
-use Rattle.std.proofs.Common.{◌≡◌, ◌<◌, length, map, slice_index_or, Option, Some, None, IfSome, ℕ, sym, ◌∙◌, refl, ap, subst}
+use Rattle.std.proofs.Common.{◌≡◌, ◌<◌, length, map, slice_index_or, Some, None, IfSome, ℕ, sym, ◌∙◌, refl, ap, subst}
 use Rattle.std.proofs.lemmas.List.{get_or-map}
 use Rattle.std.specs.Option.{option_map}
 use Rattle.word_model.specs.Words.{Algebra}
 use Rattle.gproduct.specs.Places.{place_value, cell_of}
 use Rattle.gproduct.specs.Seats.{Seat, Knows}
-use Rattle.gproduct.specs.declared.place.Place.{Place}
 use Rattle.gproduct.specs.declared.seat.Slot.{Slot}
 use Rattle.gproduct.proofs.seat.TableSeat.known.Goals as goal
 

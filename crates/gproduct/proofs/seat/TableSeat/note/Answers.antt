@@ -1,4 +1,4 @@
-use Rattle.std.proofs.Common.{◌≡◌, ◌<◌, length, slice_index_or, slice_set, map, Option, Some, None, true, ℕ, sym, ◌∙◌, refl, ap, subst}
+use Rattle.std.proofs.Common.{◌≡◌, ◌<◌, length, slice_index_or, slice_set, map, Some, None, true, sym, ◌∙◌, refl, ap, subst}
 use Rattle.std.specs.Option.{option_map}
 use Rattle.word_model.specs.Words.{Algebra}
 use Rattle.gproduct.specs.Places.{cell_of}

@@ -1,8 +1,8 @@
-use Rattle.std.proofs.Common.{◌≡◌, ◌+◌, ◌<◌, ◌≤◌, ℕ, List, map, sym, subst, ap, ◌∙◌, arith}
+use Rattle.std.proofs.Common.{◌≡◌, ◌≤◌, ℕ, List, map, sym, subst, ap, ◌∙◌, arith}
 use Rattle.std.proofs.lemmas.Result.{IfOk-weaker}
 use Rattle.monomials.specs.Monomials.{degree}
 use Rattle.monomials.specs.Orders.{order_cmp}
-use Rattle.monomials.specs.Polynomials.{Polynomial, Each, HasNumbers, HasVars, from_terms}
+use Rattle.monomials.specs.Polynomials.{Each, HasNumbers, HasVars, from_terms}
 use Rattle.gpoly.specs.Terms.{pairs_of}
 use Rattle.word_model.specs.Words.{Algebra, normal_form}
 use Rattle.closed_forms.specs.Forms.{pairs_of as powers_of, Powers, Terms, IsNumber, in_algebra}

@@ -1,7 +1,7 @@
-use Rattle.std.proofs.Common.{◌≡◌, ◌+◌, ◌<◌, ◌≤◌, ℕ, [], ◌++◌, replicate, refl, sym, ap, ◌∙◌, arith, append-nil, Err}
+use Rattle.std.proofs.Common.{◌≡◌, ◌+◌, ◌<◌, ◌≤◌, ◌++◌, replicate, ap, ◌∙◌, arith, append-nil, Err}
 use Rattle.prime_field.specs.Modular.{IsPrime}
 use Rattle.monomials.specs.Monomials.{Monomial, degree}
-use Rattle.word_model.specs.Words.{Algebra, Word, monomial_of, normal_form, sorted_word}
+use Rattle.word_model.specs.Words.{Algebra, monomial_of, normal_form, sorted_word}
 use Rattle.word_model.specs.Products.{product}
 use Rattle.gproduct.specs.Swaps.{IsSwap, swap_word}
 use Rattle.gproduct.specs.declared.swap.Swap.{Swap}

@@ -1,6 +1,5 @@
-use Rattle.std.proofs.Common.{◌≡◌, ◌+◌, ◌-◌, ◌<◌, ◌≤◌, ℕ, List, set, take, replicate, ap, ◌∙◌, arith}
+use Rattle.std.proofs.Common.{◌-◌, ap, ◌∙◌, arith}
 use Rattle.monomials.specs.Monomials.{degree}
-use Rattle.word_model.specs.Words.{monomial_of}
 use Rattle.gproduct.proofs.TwoPowers.{exponents_are, degree-powers}
 use Rattle.gproduct.proofs.swap.Swap.monomial.Goals as goal
 

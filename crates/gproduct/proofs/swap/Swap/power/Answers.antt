@@ -1,7 +1,6 @@
-use Rattle.std.proofs.Common.{◌≡◌, ◌+◌, ◌%◌, ◌≤◌, ℕ, [], ◌++◌, replicate, ap, ◌∙◌, arith, mod-eq_of_lt}
+use Rattle.std.proofs.Common.{◌≡◌, ◌+◌, ◌%◌, ◌≤◌, [], ◌++◌, replicate, ap, ◌∙◌, arith, mod-eq_of_lt}
 use Rattle.std.proofs.lemmas.Result.{IfOk-weaker}
 use Rattle.prime_field.specs.Modular.{IsPrime}
-use Rattle.monomials.specs.Monomials.{degree}
 use Rattle.monomials.specs.Polynomials.{cons_nonzero}
 use Rattle.word_model.specs.Words.{monomial_of}
 use Rattle.word_model.proofs.Letters.{length-counts_from}

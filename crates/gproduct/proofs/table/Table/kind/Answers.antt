@@ -1,4 +1,4 @@
-use Rattle.std.proofs.Common.{◌≡◌, IfSome, sym, subst}
+use Rattle.std.proofs.Common.{IfSome, sym, subst}
 use Rattle.word_model.specs.Words.{Algebra}
 use Rattle.closed_forms.specs.Kinds.{HasKind}
 use Rattle.gproduct.specs.Swaps.{AreKinds}

@@ -1,4 +1,4 @@
-use Rattle.std.proofs.Common.{◌≡◌, Some, None, ℕ, slice_index_or, sym, ◌∙◌, refl, rules}
+use Rattle.std.proofs.Common.{◌≡◌, Some, None, slice_index_or, sym, ◌∙◌, refl, rules}
 use Rattle.std.proofs.lemmas.List.{get_or_default}
 use Rattle.std.specs.Option.{option_map}
 use Rattle.gproduct.specs.Places.{cell_of}

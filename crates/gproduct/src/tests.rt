@@ -1,4 +1,5 @@
 //! Tests on algebras in three variables.
 
 mod algebras;
+mod products;
 mod table;

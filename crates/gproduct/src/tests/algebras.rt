@@ -22,6 +22,8 @@ pub const PLANE: &str = "7|3 1 1|0:0.0.0|0:0.0.0|0:0.0.0";
 pub const Q_WEYL: &str = "7|3 1 1|1:0.0.0|0:0.0.0|0:0.0.0";
 // y x = x y + y
 pub const RIGHT: &str = "7|1 1 1|1:0.1.0|0:0.0.0|0:0.0.0";
+// y x = x y + x
+pub const LEFT: &str = "7|1 1 1|1:1.0.0|0:0.0.0|0:0.0.0";
 // sl2 in e, f and h: f e = e f - h, h e = e h + 2 e, h f = f h - 2 f
 pub const SL2: &str = "32003|1 1 1|32002:0.0.1|2:1.0.0|32001:0.1.0";
 
@@ -52,6 +54,19 @@ fn term(alloc: Global, field: Field, order: &Order, text: &str) -> Result<GPoly,
     let mono = monomial(exponents)?;
     let term = GPoly::from_terms(alloc, field, order, &[Term { coef, mono }])?;
     Ok(term)
+}
+
+/// The sum of terms, parted by spaces.
+pub fn poly(alloc: Global, field: Field, order: &Order, text: &str) -> Result<GPoly, Fail>
+    requires { order.now.vars ≡ 3 }
+    ensures { IfOk result (λ f. IsPolynomial field order.now f) }
+{
+    let mut sum = GPoly::zero(alloc);
+    for piece in text.split(' ') {
+        let part = term(alloc, field, order, piece)?;
+        sum = sum.add(alloc, field, order, &part)?;
+    }
+    Ok(sum)
 }
 
 /// The algebra with these characteristic, numbers and polynomials of the pairs (1, 2), (1, 3) and (2, 3), under dp.
@@ -88,6 +103,7 @@ pub fn named(alloc: Global, name: &str) -> Result<Algebra, Fail>
         "plane" => PLANE,
         "q-weyl" => Q_WEYL,
         "right" => RIGHT,
+        "left" => LEFT,
         _ => SL2,
     };
     algebra(alloc, text)

@@ -7,7 +7,8 @@ use Rattle.word_model.specs.declared.records.Mode.{Mode}
 use Rattle.word_model.specs.declared.records.Outcome.{Outcome}
 use Rattle.commit_core.specs.Leads.{Run, IsAt, IsSameRun, IsCommit, run_step}
 use Rattle.commit_core.specs.Kept.{Turns, state_of}
-use Rattle.commit_core.specs.declared.lead.Committed.TheVariants.{Added}
+use Rattle.commit_core.specs.declared.lead.Committed.{Committed}
+use Rattle.commit_core.specs.declared.lead.Committed.TheVariants.{Added, Over as Ended}
 use Rattle.commit_core.proofs.Turning.{step-adds, run-first, run-goes_on, run-ends}
 
 -- the journal of the run from this state on
@@ -65,3 +66,8 @@ run-machine run A gens mode budget same at journal is =
     ∙ ap (λ (m : Mode). run_within A gens m run.budget (suc (run.budget - 0)) (first_state gens)) same.mode
     ∙ ap (λ b. run_within A gens mode b (suc (b - 0)) (first_state gens)) same.budget
     ∙ sym (run-first A gens mode budget (first_state gens) refl)
+
+-- no commit changes the algebra
+pub commit-algebra : (old new : Run) (r : Committed) → IsCommit old new (Ok r) → new.algebra ≡ old.algebra
+commit-algebra old new Added commit = commit.0.algebra
+commit-algebra old new (Ended outcome) commit = ap (λ (run : Run). run.algebra) commit.1

@@ -1,6 +1,6 @@
 //! Worked runs. Polynomials are texts: their terms, each a number and the digits of its exponents.
 
-ghost use Rattle.std.specs.Prelude.{◌≡◌, ◌≤◌, ◌++◌, ◌∷◌, [], IfOk, OnOk, length};
+ghost use Rattle.std.specs.Prelude.{◌≡◌, ◌<◌, ◌≤◌, ◌++◌, ◌∷◌, [], IfOk, OnOk, length};
 ghost use Rattle.monomials.specs.Monomials.{degree};
 ghost use Rattle.monomials.specs.Polynomials.{Each, IsPolynomial};
 
@@ -392,7 +392,7 @@ fn commits<L: Ledger>(
         push_job(&mut text, job)?;
     }
     text.push('\n')?;
-    for _ in 0..count {
+    for _turn in 0..count {
         let committed = lead.commit(alloc, seat, None, &mut steps)?;
         push_committed(&mut text, committed)?;
     }

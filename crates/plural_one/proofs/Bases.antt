@@ -5,9 +5,8 @@ use Rattle.std.specs.Fmt.{decimal}
 use Rattle.std.specs.Ordering.{is_lt}
 use Rattle.monomials.specs.Orders.{order_cmp}
 use Rattle.monomials.specs.Leading.{leading_monomial}
-use Rattle.monomials.specs.Polynomials.{Polynomial, Each, IsPolynomial, HasNumbers, HasVars}
+use Rattle.monomials.specs.Polynomials.{Polynomial, Each, IsPolynomial}
 use Rattle.monomials.proofs.Keys.{Each-weaker}
-use Rattle.monomials.proofs.Operations.{HasNumbers-canonical}
 use Rattle.word_model.specs.Words.{Algebra}
 use Rattle.word_model.specs.Conditions.{IsAccepted}
 use Rattle.word_model.specs.Reduction.{Reduced, reduce_tail}
@@ -92,11 +91,3 @@ module _ (A : Algebra) (ok : IsAccepted A) where
           let same : list_of finals ≡ found = cc in
           subst (λ (found : FinishedList). Each IsOf found.list) same
           (Each-map IsOf (λ (x : Final). x.polynomial) finals (finals_from-are (kept_from G 1 G) are 1 (kept_from G 1 G) are finals is))
-
-  -- their numbers are those of the field, and their monomials those of the order
-  pub finished-numbers : (G : List Polynomial) → Each (IsElement A) G → (found : FinishedList) → finished A G ≡ Some found → Each (HasNumbers A.p) found.list
-  finished-numbers G elements found e =
-      Each-weaker IsOf (HasNumbers A.p) (λ f is. HasNumbers-canonical (order_cmp A.order.rows) A.p f is.canonical) found.list (finished-are G elements found e)
-
-  pub finished-vars : (G : List Polynomial) → Each (IsElement A) G → (found : FinishedList) → finished A G ≡ Some found → Each (HasVars A.order.vars) found.list
-  finished-vars G elements found e = Each-weaker IsOf (HasVars A.order.vars) (λ f is. is.vars) found.list (finished-are G elements found e)

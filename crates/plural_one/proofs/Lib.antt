@@ -8,3 +8,4 @@ pub mod Runs
 pub mod Relations
 pub mod Products
 pub mod Bases
+pub mod VariableNames

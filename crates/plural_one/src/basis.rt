@@ -1,6 +1,6 @@
 //! What a script is answered that asks for a basis.
 
-ghost use Rattle.std.specs.Prelude.{◌≡◌, ◌≤◌, ◌++◌, length, map, codes, string_bytes, IfOk};
+ghost use Rattle.std.specs.Prelude.{◌≡◌, ◌≤◌, length, map, IfOk};
 ghost use Rattle.monomials.specs.Polynomials.{Each, IsPolynomial};
 ghost use Rattle.word_model.specs.Products.{letters_product};
 ghost use Rattle.word_model.specs.Machine.{IsElement, most_elements};

@@ -1,12 +1,10 @@
 -- The sign in front of a later term.
-use Rattle.std.proofs.Common.{◌≡◌, ℕ, zero, suc, ◌+◌, ◌-◌, ◌/◌, ◌<◌, ◌≤◌, ◌^◌, Bool, true, false, not, nat_eq, nat_le, List, [], ◌∷◌, ◌++◌, length, get_or, refl, sym, ap, ◌∙◌, append-nil, append_assoc, arith, inl, inr, subst, ℤ, pos, negsuc}
-use Rattle.std.specs.Prelude.{◌==◌, if◌then◌else◌, codes, ◌-ℤ◌, ◌&&◌}
-use Rattle.std.specs.List.{join_with_byte}
+use Rattle.std.proofs.Common.{◌≡◌, ℕ, zero, suc, ◌+◌, ◌-◌, ◌/◌, ◌<◌, ◌≤◌, ◌^◌, true, false, nat_eq, nat_le, List, [], ◌∷◌, ◌++◌, length, get_or, refl, sym, ap, ◌∙◌, append-nil, append_assoc, arith, inl, inr, subst, ℤ, pos, negsuc}
+use Rattle.std.specs.Prelude.{◌==◌, codes, ◌-ℤ◌, ◌&&◌}
 use Rattle.std.specs.Fmt.{decimal, signed_decimal}
 use Rattle.std.proofs.lemmas.Bool.{cases_Bool, and_parts, leb-true, leb-false, le-leb, lt-leb, eqb-true, eqb-false, ne_eqb}
 use Rattle.std.proofs.lemmas.Fmt.{first_decimal, decimal_digit}
 use Rattle.std.proofs.lemmas.Int.{ints}
-use Rattle.prime_field.specs.Modular.{symmetric}
 use Rattle.monomials.specs.Monomials.{Monomial, degree}
 use Rattle.monomials.specs.Polynomials.{Each}
 use Rattle.word_model.specs.Texts.{number_text, power_text, power_texts, monomial_text, term_text, with_sign}

@@ -1,4 +1,10 @@
+ghost use Rattle.std.specs.Prelude.{◌≡◌, ◌<◌, ◌≤◌, length};
+ghost use Rattle.word_model.specs.Words.{IsWord};
+
 use super::*;
+use gproduct::Table;
+use std::marker::Brand;
+use std::sync::ledger::Blank;
 use std::test::Fail;
 
 // The numbers of d^32 x^32 modulo 32003, by falling degree: k! C(32, k)^2 at x^(32 - k) d^(32 - k).
@@ -8,6 +14,26 @@ const POWERS: [u32; 33] = [
     31728, 14613, 11373, 25814, 27075, 31849,
 ];
 
+// The product over a table of its own, with its steps counted on the blank.
+fn product_of<L: Ledger>(
+    alloc: Global,
+    algebra: &Algebra,
+    letters: &[u8],
+    blank: Blank,
+) -> Result<GPoly, AllocError>
+    requires letters { IsWord algebra.now.order.vars letters.now }
+    requires some { 1 ≤ length letters.now }
+    requires few { length letters.now ≤ 4095 }
+    requires name { blank.name ≡ L.name }
+    requires parts { blank.parts ≡ L.parts }
+    requires counts { 0 < blank.parts }
+{
+    let table = Table::new(alloc, algebra)?;
+    let mut seat = table.seat(alloc)?;
+    let mut steps = Steps::<L>::start(blank);
+    letters_product(alloc, &mut seat, letters, &mut steps)
+}
+
 #[test]
 fn powers(rt: HostRuntime) -> Result<(), Fail> {
     let alloc = rt.alloc();
@@ -15,7 +41,7 @@ fn powers(rt: HostRuntime) -> Result<(), Fail> {
     let weyl = two_variables(alloc, field, 1, 1)?.expect(&rt, "1 is not zero");
     let mut letters = vec![in alloc; 2; 32]?;
     letters.resize(64, 1)?;
-    let product = letters_product(alloc, &weyl, &letters)?;
+    let product = product_of::<Brand>(alloc, &weyl, &letters, Blank::new(1))?;
     assert_eq!(rt; product.terms().len(), POWERS.len());
     for (term, coef) in product.terms().iter().zip(&POWERS) {
         assert_eq!(rt; term.coef, *coef);

@@ -1,5 +1,5 @@
 use Rattle.std.proofs.Common.{◌≡◌, ◌∷◌, ap, sym, ◌∙◌, subst, List, ℕ, ◌++◌, map, string_bytes, append_assoc}
-use Rattle.monomials.specs.Polynomials.{Polynomial, HasNumbers, HasVars}
+use Rattle.monomials.specs.Polynomials.{HasNumbers, HasVars}
 use Rattle.monomials.proofs.Operations.{HasNumbers-polynomial}
 use Rattle.word_model.specs.Texts.{term_text}
 use Rattle.gpoly.specs.Terms.{pair_of, pairs_of}

@@ -1,4 +1,4 @@
-use Rattle.std.proofs.Common.{◌≡◌, ◌++◌, ◌+◌, map, length, drop, string_bytes}
+use Rattle.std.proofs.Common.{◌≡◌, ◌++◌, ◌+◌, map, drop, string_bytes}
 use Rattle.monomials.specs.Polynomials.{Each, IsPolynomial}
 use Rattle.word_model.specs.Texts.{generator_lines, ideal_text}
 use Rattle.plural_text.proofs.printing.ideal_text.Given as goal

@@ -1,4 +1,4 @@
-use Rattle.std.proofs.Common.{◌≡◌, ◌++◌, ◌+◌, map, length, drop, string_bytes}
+use Rattle.std.proofs.Common.{◌≡◌, ◌++◌, ◌+◌, map, drop, string_bytes}
 use Rattle.monomials.specs.Polynomials.{Each, IsPolynomial}
 use Rattle.word_model.specs.Texts.{row_lines, rows_text}
 use Rattle.plural_text.proofs.printing.rows_text.Given as goal

@@ -1,9 +1,8 @@
-use Rattle.std.proofs.Common.{◌≡◌, ◌≢◌, ℕ, ◌%◌, ◌<◌, ◌≤◌, length, ap, sym, ◌∙◌, subst, arith, refl}
+use Rattle.std.proofs.Common.{◌≡◌, ◌≢◌, ℕ, ◌%◌, length, ap, sym, ◌∙◌, arith}
 use Rattle.std.proofs.lemmas.Result.{IfOk-weaker}
-use Rattle.monomials.specs.Monomials.{Monomial, plus, variable, degree}
+use Rattle.monomials.specs.Monomials.{plus, degree}
 use Rattle.monomials.specs.Orders.{RowOrder}
-use Rattle.monomials.specs.Polynomials.{IsPolynomial}
-use Rattle.word_model.specs.Words.{Algebra, c_of, d_of}
+use Rattle.word_model.specs.Words.{Algebra, c_of}
 use Rattle.word_model.proofs.Acceptance.{c_of-below, IsPolynomial-d_of}
 use Rattle.plural_text.proofs.RightSides.{length-pair, degree-pair, pair_made, right_side-made}
 use Rattle.plural_text.proofs.rings.right_side.Goals as goal

@@ -1,6 +1,6 @@
 use Rattle.std.proofs.Common.{◌≡◌, ◌+◌, ◌-◌, ◌++◌, suc, map, string_bytes, arith, ap, ◌∙◌, List, ℕ}
 use Rattle.word_model.specs.Words.{Algebra}
-use Rattle.word_model.specs.RingTexts.{relation_row, relation_lines}
+use Rattle.word_model.specs.RingTexts.{relation_row}
 use Rattle.plural_text.proofs.Joined.{one_more}
 use Rattle.plural_text.proofs.Relations.{lines_step}
 use Rattle.plural_text.proofs.rings.write_relations.Goals as goal

@@ -1,5 +1,5 @@
 -- The finished list: what is kept, what the elements and finals are, and that they are made from the last one on.
-use Rattle.std.proofs.Common.{◌≡◌, ◌≢◌, ℕ, zero, suc, ◌+◌, ◌-◌, ◌<◌, ◌≤◌, ◌⊎◌, inl, inr, Bool, true, false, not, is_none, List, [], ◌∷◌, ◌++◌, length, take, drop, Option, None, Some, Result, Ok, Err, slice_index_or, if◌then◌else◌, refl, sym, ap, ◌∙◌, subst, arith, length-append}
+use Rattle.std.proofs.Common.{◌≡◌, ◌≢◌, ℕ, zero, suc, ◌+◌, ◌-◌, ◌<◌, ◌≤◌, ◌⊎◌, inl, inr, Bool, true, false, not, is_none, List, [], ◌∷◌, ◌++◌, length, drop, None, Some, Result, Ok, Err, slice_index_or, if◌then◌else◌, refl, sym, ap, ◌∙◌, subst, arith, length-append}
 use Rattle.std.proofs.Common.{is_lt}
 use Rattle.std.specs.List.{insert}
 use lib.ListN.{get_or-append}
@@ -9,10 +9,10 @@ use Rattle.monomials.specs.Orders.{RowOrder, order_cmp}
 use Rattle.monomials.specs.Leading.{leading_monomial}
 use Rattle.monomials.specs.Polynomials.{Polynomial, Each, IsPolynomial}
 use Rattle.word_model.specs.Words.{Algebra}
-use Rattle.word_model.specs.Reduction.{element, least_number, Reduced, reduce_tail}
+use Rattle.word_model.specs.Reduction.{element, Reduced, reduce_tail}
 use Rattle.word_model.specs.Finished.{Final, displaces, is_kept, kept_from, kept, insert_final, with_final, finals_from, FinishedList, list_of, option_list, finished}
 use Rattle.word_model.specs.Machine.{IsElement}
-use Rattle.word_model.proofs.LeastNumbers.{IsLeast, least_number-is, least_number-absent}
+use Rattle.word_model.proofs.LeastNumbers.{least_number-is, least_number-absent}
 use Rattle.finish.specs.Finishing.{IsNonzeroIn, select, add_polynomial, add_final}
 
 -- ---- lists

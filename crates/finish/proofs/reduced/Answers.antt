@@ -1,7 +1,7 @@
-use Rattle.std.proofs.Common.{◌≡◌, ◌≤◌, sym, ap, ◌∙◌, subst, arith, length, Some, None, Option}
+use Rattle.std.proofs.Common.{◌≡◌, ◌≤◌, sym, ap, subst, arith, length, Some, None}
 use Rattle.std.proofs.lemmas.Result.{err_from_is_err_and}
-use Rattle.monomials.specs.Polynomials.{Polynomial, Each}
-use Rattle.word_model.specs.Finished.{FinishedList, finished}
+use Rattle.monomials.specs.Polynomials.{Each}
+use Rattle.word_model.specs.Finished.{finished}
 use Rattle.word_model.specs.Machine.{IsElement, Journal}
 use Rattle.finish.proofs.Finishing.{met_fault, nonzero_in, kept-sorted, length-kept, finished-is, finished-none}
 use Rattle.finish.proofs.reduced.Goals as goal

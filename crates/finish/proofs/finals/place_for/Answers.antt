@@ -1,4 +1,4 @@
-use Rattle.std.proofs.Common.{◌≡◌, ◌<◌, true, [], slice_index_or, length, ap, sym, ◌∙◌, arith, le_refl}
+use Rattle.std.proofs.Common.{◌≡◌, ◌<◌, true, [], slice_index_or, length, ap, ◌∙◌, arith, le_refl}
 use Rattle.word_model.specs.Finished.{Final}
 use Rattle.finish.proofs.Finishing.{item_default, is_before, is_before-is, insert_final-at}
 use Rattle.finish.proofs.finals.place_for.Goals as goal

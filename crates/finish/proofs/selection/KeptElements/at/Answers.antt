@@ -1,4 +1,4 @@
-use Rattle.std.proofs.Common.{◌≡◌, ◌-◌, ◌<◌, [], length, ◌∙◌, arith}
+use Rattle.std.proofs.Common.{◌-◌, ◌<◌, [], length, ◌∙◌, arith}
 use Rattle.finish.proofs.Finishing.{item_default, length-select, selected, not_selected}
 use Rattle.finish.proofs.selection.KeptElements.at.Goals as goal
 

@@ -84,15 +84,6 @@ same-more old list q new job same added other =
     turn false true = refl
     turn false false = refl
 
--- the jobs of a first list and then those of a second
-pub same-both : (old first second q new : List Job) → SameJobs (old ++ first) q → SameJobs (q ++ second) new → SameJobs (old ++ (first ++ second)) new
-same-both old first second q new same more other =
-    ap (λ jobs. is_queued jobs other) (sym (append_assoc old first second))
-    ∙ queued-append (old ++ first) second other
-    ∙ ap (λ t. t || is_queued second other) (same other)
-    ∙ sym (queued-append q second other)
-    ∙ more other
-
 -- what holds of an item and of a list holds of the list with it
 pub Each-with_item : (P : Keyed → Type 0) (o : RowOrder) (k : Keyed) (items : List Keyed) → P k → Each P items → Each P (with_item o k items)
 Each-with_item P o k [] here h = (here, tt)

@@ -137,79 +137,6 @@ module _ (run : Run) where
       → Turns run (λ s. turn_of_job run.algebra run.generators run.mode s job found)
   turn-by job found e turn s at = turn s at ∙ ap (turn_of_job run.algebra run.generators run.mode s job) (sym e)
 
-  -- a start that is undefined
-  pub turn-undefined : (job : Job) → Turns run (λ s. turn_of_start run.algebra run.mode s job (start_of run.algebra run.generators s.basis job))
-      → start_of run.algebra run.generators run.basis job ≡ None → Turns run (λ s. Over DegreeOver)
-  turn-undefined job turn e s at =
-      turn s at ∙ ap (turn_of_start run.algebra run.mode s job) (ap (λ (G : List Polynomial). start_of run.algebra run.generators G job) at.basis ∙ e)
-
-  reduction-is : (r : Reduction) → reduction_of (behind_steps [] r) ≡ r
-  reduction-is r = by r.over r.rest refl refl
-    where
-      same : (b : Bool) (rest : Polynomial) → is_over (if b then Undefined else ends_at rest) ≡ b
-      same true rest = refl
-      same false [] = refl
-      same false (t ∷ f) = refl
-
-      by : (b : Bool) (rest : Polynomial) → r.over ≡ b → r.rest ≡ rest → reduction_of (behind_steps [] r) ≡ r
-      by b rest e h = ap (λ over. record { trace = r.trace; rest = r.rest; over = over }) (same r.over r.rest)
-
-  -- a start that was reduced
-  pub turn-reduced : (job : Job) (h : Polynomial) (reduced : GoneOn)
-      → Turns run (λ s. turn_of_start run.algebra run.mode s job (start_of run.algebra run.generators s.basis job))
-      → start_of run.algebra run.generators run.basis job ≡ Some h → reduced ≡ behind_steps [] (reduce run.algebra run.basis h)
-      → Turns run (λ s. turn_of_rest run.algebra run.mode s job (reduction_of reduced))
-  turn-reduced job h reduced turn e is s at =
-      let r : reduce run.algebra s.basis h ≡ reduction_of reduced =
-      ap (λ (G : List Polynomial). reduce run.algebra G h) at.basis ∙ sym (reduction-is (reduce run.algebra run.basis h)) ∙ ap reduction_of (sym is) in
-      turn s at
-      ∙ ap (turn_of_start run.algebra run.mode s job) (ap (λ (G : List Polynomial). start_of run.algebra run.generators G job) at.basis ∙ e)
-      ∙ ap (turn_of_rest run.algebra run.mode s job) r
-
--- how a reduction ends
-pub ended-same : (r : Reduction) (reduced : GoneOn) → reduced ≡ behind_steps [] r → reduced.ended ≡ ended_of (reduction_of reduced)
-ended-same r reduced e = subst (λ (g : GoneOn). g.ended ≡ ended_of (reduction_of g)) (sym e) (by r.over r.rest)
-  where
-    by : (b : Bool) (rest : Polynomial) → (if b then Undefined else ends_at rest) ≡ (if is_over (if b then Undefined else ends_at rest) then Undefined else ends_at rest)
-    by true rest = refl
-    by false [] = refl
-    by false (t ∷ f) = refl
-
-module _ (run : Run) (job : Job) (r : GoneOn) (ended : r.ended ≡ ended_of (reduction_of r)) (turn : Turns run (λ s. turn_of_rest run.algebra run.mode s job (reduction_of r))) where
-  abbrev After : State → Bool → Polynomial → Turn
-  After s over rest = if over then Over DegreeOver else elim rest [
-    | [] ↦ On (with_entry s job (Zero job r.trace))
-    | t ∷ f ↦ if nat_le most_elements (length s.basis) then Over BasisFull else On (with_element run.algebra run.mode s job (reduction_of r))
-  ]
-
-  pub turn-over : r.ended ≡ Undefined → Turns run (λ s. Over DegreeOver)
-  turn-over e s at = turn s at ∙ ap (λ end. After s (is_over end) r.rest) e
-
-  rest-zero : (end : Ended) (rest : Polynomial) → end ≡ Nothing → end ≡ (if is_over end then Undefined else ends_at rest) → rest ≡ []
-  rest-zero end [] e h = refl
-  rest-zero Nothing (t ∷ f) e h = cc
-  rest-zero Irreducible (t ∷ f) e h = cc
-  rest-zero Undefined (t ∷ f) e h = cc
-
-  rest-some : (end : Ended) (rest : Polynomial) → end ≡ Irreducible → end ≡ (if is_over end then Undefined else ends_at rest) → (t : ℕ × List ℕ) × (f : Polynomial) × (rest ≡ t ∷ f)
-  rest-some end (t ∷ f) e h = (t, f, refl)
-  rest-some Nothing [] e h = cc
-  rest-some Irreducible [] e h = cc
-  rest-some Undefined [] e h = cc
-
-  pub turn-zero : r.ended ≡ Nothing → Turns run (λ s. On (with_entry s job (Zero job r.trace)))
-  turn-zero e s at =
-      turn s at ∙ ap (λ end. After s (is_over end) r.rest) e ∙ ap (After s false) (rest-zero r.ended r.rest e ended)
-
-  pub turn-nonzero : r.ended ≡ Irreducible → r.rest ≢ []
-  turn-nonzero e none = let some = rest-some r.ended r.rest e ended in cc
-
-  pub turn-new : r.ended ≡ Irreducible
-      → Turns run (λ s. if nat_le most_elements (length s.basis) then Over BasisFull else On (with_element run.algebra run.mode s job (reduction_of r)))
-  turn-new e s at =
-      let some = rest-some r.ended r.rest e ended in
-      turn s at ∙ ap (λ end. After s (is_over end) r.rest) e ∙ ap (After s false) some.2
-
 -- the state with a new element
 abbrev pub admits : Mode → ℕ → Job → Entry → Polynomial → State → State
 admits mode n job entry element s = record {
@@ -220,11 +147,6 @@ admits mode n job entry element s = record {
 
 module _ (run : Run) (job : Job) (r : Reduction)
     (turn : Turns run (λ s. if nat_le most_elements (length s.basis) then Over BasisFull else On (with_element run.algebra run.mode s job r))) where
-  pub turn-full : 2048 ≤ length run.basis → Turns run (λ s. Over BasisFull)
-  turn-full full s at =
-      let t : nat_le most_elements (length s.basis) ≡ true = grind (arith, nat_tests, ap length at.basis) in
-      turn s at ∙ rw t refl
-
   pub turn-element : (scale : ℕ) (element : Polynomial) → length run.basis < 2048 → scale ≡ inverse run.algebra.p (leading_coefficient r.rest)
       → element ≡ poly_scale run.algebra.p scale r.rest → Turns run (λ s. On (admits run.mode run.algebra.order.vars job (New job r.trace scale) element s))
   turn-element scale element room is monic s at =
@@ -250,24 +172,6 @@ run_at A gens mode budget o s = record {
 
 module _ (A : Algebra) (gens : List Polynomial) (mode : Mode) (budget : ℕ) (o : Option Outcome) (s t : State) (q : JobQueue) (queue : s.queue ≡ jobs_in q.items)
     (set : IsSet (jobs_in q.items)) (job : Job) (rest : List Job) (first : s.queue ≡ job ∷ rest) (taking : Taking) (entry : Entry) (entries : t.entries ≡ s.entries ++ entry ∷ []) where
-  entered-at : (x : State) → t.basis ≡ s.basis → t.queue ≡ jobs_in (drop 1 q.items) → IsAt (run_at A gens mode budget o s) x
-      → IsAt (run_at A gens mode budget o t) (with_entry x job entry)
-  entered-at x basis left at = record {
-    entries = ap (λ e. e ++ entry ∷ []) at.entries ∙ sym entries;
-    basis = at.basis ∙ sym basis;
-    jobs =
-        subst (SameJobs (without job x.queue)) (sym left)
-        (left_jobs taking q.items x.queue rest job set (subst (SameJobs x.queue) queue at.jobs) (sym queue ∙ first));
-  }
-
-  pub entered : t.basis ≡ s.basis → t.queue ≡ jobs_in (drop 1 q.items) → Turns (run_at A gens mode budget o s) (λ x. On (with_entry x job entry))
-      → IsCommit (run_at A gens mode budget o s) (run_at A gens mode budget o t) (Ok Added)
-  entered basis left turn = (
-    record { algebra = refl; generators = refl; mode = refl; budget = refl },
-    refl,
-    λ x at. (with_entry x job entry, turn x at, entered-at x basis left at),
-  )
-
   admitted-at : (x : State) (element : Polynomial) → t.basis ≡ s.basis ++ element ∷ [] → SameJobs (jobs_in (drop 1 q.items) ++ jobs_of mode A.order.vars (length t.basis)) t.queue
       → IsAt (run_at A gens mode budget o s) x → IsAt (run_at A gens mode budget o t) (admits mode A.order.vars job entry element x)
   admitted-at x element basis more at = record {

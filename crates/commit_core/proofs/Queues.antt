@@ -19,10 +19,6 @@ use Rattle.word_model.proofs.LeastNumbers.{Each-element}
 use Rattle.commit_core.specs.Named.{IsNamed}
 use Rattle.pair_strategy.specs.declared.keys.Keyed.{Keyed}
 
--- elements are polynomials
-pub elements-sorted : (A : Algebra) (G : List Polynomial) → Each (IsElement A) G → Each (IsPolynomial A.p A.order) G
-elements-sorted A G h = Each-weaker _ _ (λ g is. is.0) G h
-
 -- ---- keys
 
 -- a leading monomial has an exponent for each variable

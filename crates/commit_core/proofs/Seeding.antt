@@ -41,15 +41,3 @@ seeds-step gens i q new low same added other =
     turn true false = refl
     turn false true = refl
     turn false false = refl
-
--- the seed of a generator that is not zero, and none of one that is
-pub seed-some : (s : ℕ) (f : Polynomial) (other : Job) → f ≢ [] → is_queued (seeds_from s (f ∷ [])) other ≡ same_job other (Seed s)
-seed-some s [] other nonzero = absurd (nonzero refl)
-seed-some s (t ∷ f) other nonzero = turn (same_job other (Seed s))
-  where
-    turn : (a : Bool) → (a || false) ≡ a
-    turn true = refl
-    turn false = refl
-
-pub seed-none : (s : ℕ) (f : Polynomial) (other : Job) → f ≡ [] → is_queued (seeds_from s (f ∷ [])) other ≡ false
-seed-none s f other e = rw e refl

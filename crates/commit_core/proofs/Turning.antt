@@ -68,11 +68,6 @@ ends turn old new (Ok None) is = λ outcome e. absurd cc
 ends turn old new (Ok (Some end)) is = λ outcome e. let same : end ≡ outcome = cc in (is.0 ∙ ap Over same, is.1)
 ends turn old new (Err e) is = tt
 
-pub failed : (turn : Turn) (old new : State) (answer : Result (Option Outcome) AllocError) → IsTurn turn old new answer → IfErr answer (λ _. new ≡ old)
-failed turn old new (Ok None) is = tt
-failed turn old new (Ok (Some outcome)) is = tt
-failed turn old new (Err e) is = is
-
 -- ---- a new element
 
 -- the state with a new element, from its parts

@@ -8,4 +8,3 @@ pub mod Runs
 pub mod Relations
 pub mod Products
 pub mod Bases
-pub mod VariableNames

@@ -10,6 +10,6 @@ returns g c =
     let A : Algebra = c.args.algebra.now in
     IfOk-weaker c.reply_to_basis.result _ _
     (λ reply is. is
-        ∙ ((λ t. basis_answer ((c.in_ok-seat.ensures.algebra ∙ c.in_ok-table.ensures) t) (map (λ w. w.items) (c.deref-in-Basis.ensures.value t)))
-        ∙ ap (λ request. words_answer A (kept_words request)) (sym c.in-Basis.is)))
+    ∙ ((λ t. basis_answer ((c.in_ok-seat.ensures.algebra ∙ c.in_ok-table.ensures) t) (map (λ w. w.items) (c.deref-in-Basis.ensures.value t)))
+    ∙ ap (λ request. words_answer A (kept_words request)) (sym c.in-Basis.is)))
     c.reply_to_basis.ensures

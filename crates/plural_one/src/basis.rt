@@ -104,3 +104,6 @@ fn refusal(alloc: Global, word: &str) -> Result<Reply, AllocError>
 {
     Ok(Reply::Refused(format!(in alloc; "? line 3: {word}\n")?))
 }
+
+#[cfg(test)]
+mod tests;

@@ -7,6 +7,7 @@ ghost use Rattle.monomials.specs.Polynomials.{Each, IsPolynomial};
 use super::*;
 use algebra::Relations;
 use gpoly::Term;
+use left_reduce::{reduce_from, start_of};
 use monomials::{Block, Expo, Order};
 use plain::PlainWorker;
 use prime_field::Field;
@@ -373,7 +374,29 @@ fn push_committed(text: &mut String, committed: Committed) -> Result<(), AllocEr
     Ok(())
 }
 
-// The jobs that wait, what so many commits do, and the entries after them.
+// Adds the steps by which the first job's start is reduced ahead, by the elements so far.
+fn push_ahead<L: Ledger>(
+    alloc: Global,
+    text: &mut String,
+    seat: &mut TableSeat,
+    lead: &Lead,
+    steps: &mut Steps<L>,
+) -> Result<(), Fail>
+    requires { seat.old.algebra ≡ lead.now.algebra }
+{
+    let Some(job) = lead.first() else {
+        return Ok(());
+    };
+    let basis = lead.basis();
+    let start = start_of(alloc, seat, basis, lead.generators(), job, steps)?;
+    let reduced = reduce_from(alloc, seat, basis, start, Trace::new(alloc), steps)?;
+    text.push_str("Ahead")?;
+    push_job(text, job)?;
+    push_trace(text, &reduced.trace)?;
+    Ok(())
+}
+
+// The jobs that wait, what so many commits do, the entries after them, and a job ahead.
 fn commits<L: Ledger>(
     alloc: Global,
     seat: &mut TableSeat,
@@ -398,6 +421,7 @@ fn commits<L: Ledger>(
     }
     text.push('\n')?;
     push_entries(&mut text, lead.entries())?;
+    push_ahead(alloc, &mut text, seat, lead, &mut steps)?;
     Ok(text)
 }
 
@@ -425,7 +449,7 @@ const MARKED: &str = " Seed 1 Seed 2
 Added; Added; 
 New Seed 1 times 100
 New Seed 2 100:100 by 1 100:010 by 1 times 100
-";
+Ahead Pair 1 2 1:001 by 1 100:010 by 2";
 
 #[test]
 fn reduces_the_second_seed_by_two_steps(rt: HostRuntime) -> Result<(), Fail> {
@@ -439,7 +463,7 @@ fn reduces_the_second_seed_by_two_steps(rt: HostRuntime) -> Result<(), Fail> {
 const OVER: &str = " Seed 2 Seed 1
 Added; Over BudgetSpent; Over BudgetSpent; 
 New Seed 2 times 1
-";
+Ahead Seed 1";
 
 #[test]
 fn a_lead_that_is_over_answers_the_same_again(rt: HostRuntime) -> Result<(), Fail> {

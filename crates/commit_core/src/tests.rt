@@ -201,7 +201,7 @@ fn journal_text(alloc: Global, journal: &Journal) -> Result<String, AllocError> 
     Ok(text)
 }
 
-// The journal of an engine over these generators, as a text.
+// The journal of an engine over these generators, as a text, where it makes the same one again.
 fn run<E: Engine>(
     alloc: Global,
     engine: &mut E,
@@ -218,7 +218,12 @@ fn run<E: Engine>(
         return Err("there are at most 4096 generators".into());
     }
     let journal = engine.basis(alloc, alg, &gens, mode, budget)?;
-    Ok(journal_text(alloc, &journal)?)
+    let text = journal_text(alloc, &journal)?;
+    let again = engine.basis(alloc, alg, &gens, mode, budget)?;
+    if text != journal_text(alloc, &again)? {
+        return Err("an engine makes the same journal again".into());
+    }
+    Ok(text)
 }
 
 // The journal of the lead's run, where the plain program's is the same.

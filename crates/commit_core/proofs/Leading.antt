@@ -1,8 +1,9 @@
 -- A lead and the machine: the turn of each state that a lead is at, and where the lead is after it.
-use Rattle.std.proofs.Common.{◌≡◌, ◌≢◌, ℕ, suc, ◌+◌, ◌<◌, ◌≤◌, nat_le, ◌||◌, ◌&&◌, ◌==◌, ◌⊎◌, inl, inr, Bool, true, false, List, [], ◌∷◌, ◌++◌, length, drop, Option, Some, None, IfSome, Ok, if◌then◌else◌, refl, sym, ap, ◌∙◌, subst, arith, length-append}
+use Rattle.std.proofs.Common.{◌≡◌, ◌≢◌, ℕ, suc, ◌+◌, ◌<◌, ◌≤◌, nat_le, ◌||◌, ◌&&◌, ◌==◌, ◌⊎◌, inl, inr, Bool, true, false, List, [], ◌∷◌, ◌++◌, length, map, drop, Option, Some, None, IfSome, Ok, if◌then◌else◌, refl, sym, ap, ◌∙◌, subst, arith, length-append}
 use Rattle.std.proofs.lemmas.Bool.Decides.{nat_tests}
 use Rattle.prime_field.specs.Modular.{inverse}
 use Rattle.monomials.specs.Polynomials.{Polynomial, Each, IsPolynomial, poly_scale}
+use Rattle.monomials.specs.Monomials.{Monomial}
 use Rattle.monomials.specs.Orders.{RowOrder}
 use Rattle.monomials.specs.Leading.{leading_coefficient}
 use Rattle.word_model.specs.Words.{Algebra}
@@ -23,9 +24,9 @@ use Rattle.pair_strategy.specs.declared.keys.Keyed.{Keyed}
 use Rattle.left_reduce.specs.Reductions.{GoneOn, behind_steps, ended_of, ends_at}
 use Rattle.left_reduce.specs.declared.reducing.Ended.{Ended}
 use Rattle.left_reduce.specs.declared.reducing.Ended.TheVariants.{Zero as Nothing, Irreducible, DegreeOver as Undefined}
-use Rattle.commit_core.specs.Leads.{Run, IsAt, IsCommit, run_step}
+use Rattle.commit_core.specs.Leads.{Run, IsLead, IsAt, IsCommit, run_step, keyed}
 use Rattle.commit_core.specs.Named.{IsNamed}
-use Rattle.commit_core.specs.Kept.{Turns, IsLead, is_over, reduction_of}
+use Rattle.commit_core.specs.Kept.{Turns, IsKeptRun, is_over, reduction_of}
 use Rattle.commit_core.specs.declared.lead.Committed.TheVariants.{Added}
 use Rattle.commit_core.proofs.Bringing.{queued-append, Each-rest}
 use Rattle.commit_core.proofs.Turning.{step-finished, step-spent, step-job, with_element-is}
@@ -210,8 +211,8 @@ at_itself A gens mode budget o s = record { entries = refl; basis = refl; jobs =
 
 -- after a commit that goes on the lead is one
 pub lead-on : (A : Algebra) (gens : List Polynomial) (mode : Mode) (budget : ℕ) (o : Option Outcome) (s t : State) (q new : JobQueue) → IsAccepted A → o ≡ None
-    → IsLead (run_at A gens mode budget o s) q → IsCommit (run_at A gens mode budget o s) (run_at A gens mode budget o t) (Ok Added)
-    → new.order ≡ q.order → t.queue ≡ jobs_in new.items → Each (HasKey A gens t.basis) new.items → IsLead (run_at A gens mode budget o t) new
+    → IsKeptRun (run_at A gens mode budget o s) q → IsCommit (run_at A gens mode budget o s) (run_at A gens mode budget o t) (Ok Added)
+    → new.order ≡ q.order → t.queue ≡ jobs_in new.items → Each (HasKey A gens t.basis) new.items → IsKeptRun (run_at A gens mode budget o t) new
 lead-on A gens mode budget o s t q new ok going lead commit order queue keys =
     let next = commit.2 s (at_itself A gens mode budget o s) in
     let is : IsState A gens next.0 = step-keeps A ok gens lead.sorted mode budget s next.0 lead.state next.1 in
@@ -234,7 +235,7 @@ lead-on A gens mode budget o s t q new ok going lead commit order queue keys =
 
 -- a lead that ends
 pub lead-ends : (A : Algebra) (gens : List Polynomial) (mode : Mode) (budget : ℕ) (o : Option Outcome) (s : State) (q : JobQueue) (outcome : Outcome)
-    → IsLead (run_at A gens mode budget o s) q → Turns (run_at A gens mode budget o s) (λ x. Over outcome) → IsLead (run_at A gens mode budget (Some outcome) s) q
+    → IsKeptRun (run_at A gens mode budget o s) q → Turns (run_at A gens mode budget o s) (λ x. Over outcome) → IsKeptRun (run_at A gens mode budget (Some outcome) s) q
 lead-ends A gens mode budget o s q outcome lead turn = record {
   sorted = lead.sorted;
   few = lead.few;
@@ -248,10 +249,10 @@ lead-ends A gens mode budget o s q outcome lead turn = record {
 -- a lead at the first state
 pub lead-first : (A alg : Algebra) (gens given : List Polynomial) (mode : Mode) (budget : ℕ) (s : State) (q : JobQueue) → A ≡ alg → gens ≡ given → IsAccepted alg
     → Each (IsPolynomial alg.p alg.order) given → length given ≤ 4096 → s.basis ≡ [] → SameJobs (seeds_from 1 given) s.queue
-    → q.order ≡ alg.order → s.queue ≡ jobs_in q.items → Each (HasKey alg given []) q.items → IsLead (run_at A gens mode budget None s) q
+    → q.order ≡ alg.order → s.queue ≡ jobs_in q.items → Each (HasKey alg given []) q.items → IsKeptRun (run_at A gens mode budget None s) q
 lead-first A alg gens given mode budget s q made copied ok sorted few empty seeds order queue keys =
-    subst (λ (x : Algebra). IsLead (run_at x gens mode budget None s) q) (sym made) (
-    subst (λ (x : List Polynomial). IsLead (run_at alg x mode budget None s) q) (sym copied) record {
+    subst (λ (x : Algebra). IsKeptRun (run_at x gens mode budget None s) q) (sym made) (
+    subst (λ (x : List Polynomial). IsKeptRun (run_at alg x mode budget None s) q) (sym copied) record {
       sorted = sorted;
       few = few;
       state = record {
@@ -276,13 +277,38 @@ abbrev pub Leading : Type 0
 Leading = (A : Algebra) (gens G : List Polynomial) (first : Keyed) (rest : List Keyed) (job : Job) (jobs : List Job)
     → IsRising A.order (first ∷ rest) → Each (HasKey A gens G) (first ∷ rest) → SameJobs (job ∷ jobs) (jobs_in (first ∷ rest)) → least_job A gens G job jobs ≡ first.job
 
-pub first-least : Leading → (run : Run) (q : JobQueue) (k : Keyed) (rest : List Keyed) → IsLead run q → IsQueue q → q.items ≡ k ∷ rest
+pub first-least : Leading → (run : Run) (q : JobQueue) (k : Keyed) (rest : List Keyed) → IsKeptRun run q → IsQueue q → q.items ≡ k ∷ rest
     → (s : State) (a : Job) (queue : List Job) → IsAt run s → s.queue ≡ a ∷ queue → least_job run.algebra run.generators run.basis a queue ≡ k.job
 first-least leading run q k rest lead is e s a queue at h =
     leading run.algebra run.generators run.basis k rest a queue
     (subst (IsRising run.algebra.order) e (subst (λ (o : RowOrder). IsRising o q.items) lead.order is.rising))
     (subst (Each (HasKey run.algebra run.generators run.basis)) e lead.keys)
     (subst (λ jobs. SameJobs jobs (jobs_in (k ∷ rest))) h (subst (SameJobs s.queue) (lead.jobs ∙ ap jobs_in e) at.jobs))
+
+-- ---- what every lead has
+
+-- items with their keys are the jobs with theirs
+keyed-jobs : (A : Algebra) (gens G : List Polynomial) (items : List Keyed) → Each (HasKey A gens G) items → map (keyed A gens G) (jobs_in items) ≡ items
+keyed-jobs A gens G [] keys = refl
+keyed-jobs A gens G (k ∷ items) keys =
+    ap (λ first. first ∷ map (keyed A gens G) (jobs_in items)) (ap with_mono (sym keys.0)) ∙ ap (λ rest. k ∷ rest) (keyed-jobs A gens G items keys.1)
+  where
+    with_mono : Monomial → Keyed
+    with_mono m = record { mono = m; job = k.job }
+
+pub lead-is : (run : Run) (q : JobQueue) → IsKeptRun run q → IsQueue q → IsLead run
+lead-is run q kept is = record {
+  generators = kept.sorted;
+  few_generators = kept.few;
+  elements = kept.state.elements;
+  few_elements = kept.state.few;
+  jobs = kept.state.jobs;
+  set = subst IsSet (sym kept.jobs) is.set;
+  rising = subst (IsRising run.algebra.order) (sym same) (subst (λ (o : RowOrder). IsRising o q.items) kept.order is.rising);
+}
+  where
+    same : map (keyed run.algebra run.generators run.basis) run.jobs ≡ q.items
+    same = ap (map (keyed run.algebra run.generators run.basis)) kept.jobs ∙ keyed-jobs run.algebra run.generators run.basis q.items kept.keys
 
 -- a job that is no pair has no witness
 pub no-witness : (G : List Polynomial) (jobs : List Job) (job : Job) → ((s : ℕ) × (job ≡ Seed s)) ⊎ ((i : ℕ) × (v : ℕ) × (job ≡ Right i v)) → None ≡ chain_witness G jobs job

@@ -1,4 +1,4 @@
--- What every lead has, and the turns that it takes.
+-- What the code of a lead keeps, and the turns that it takes. Private contracts and the model of `Lead` alone cite this.
 use Rattle.std.specs.Prelude.{◌≡◌, ◌≤◌, true, false, Bool, length, IfSome}
 use Rattle.monomials.specs.Polynomials.{Each, IsPolynomial}
 use Rattle.word_model.specs.Reduction.{Reduced as Reduction}
@@ -19,8 +19,8 @@ abbrev pub Turns : Run → (State → Turn) → Type 0
 Turns run turn = (s : State) → IsAt run s → run_step run s ≡ turn s
 
 -- The generators are polynomials of the algebra, what the run has is a state of the machine, the queue has its jobs with
--- their keys, and a run that is over ends where the machine does.
-pub record IsLead (run : Run) (queue : JobQueue) : Type 0 where
+-- their keys, and a run that is over ends where the machine does. With what every queue has it makes an `IsLead`.
+pub record IsKeptRun (run : Run) (queue : JobQueue) : Type 0 where
   pub sorted : Each (IsPolynomial run.algebra.p run.algebra.order) run.generators
   pub few : length run.generators ≤ 4096
   pub state : IsState run.algebra run.generators (state_of run)
@@ -43,7 +43,7 @@ kept_run lead = record {
 }
 
 abbrev pub IsKept : Inside → Type 0
-IsKept lead = IsLead (kept_run lead) lead.progress.queue
+IsKept lead = IsKeptRun (kept_run lead) lead.progress.queue
 
 -- whether a reduction ended before a step that is undefined
 abbrev pub is_over : Ended → Bool

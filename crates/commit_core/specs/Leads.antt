@@ -1,17 +1,20 @@
 -- A lead: a run of the machine that one thread goes on with, a step at a time.
-use Rattle.std.specs.Prelude.{◌≡◌, ℕ, ◌+◌, ◌++◌, ◌∷◌, [], List, length, Option, Some, None, Ok, Err}
+use Rattle.std.specs.Prelude.{◌≡◌, ℕ, ◌+◌, ◌≤◌, ◌++◌, ◌∷◌, [], List, length, map, Option, Some, None, Ok, Err}
 use Rattle.std.specs.declared.alloc.AllocError.{AllocError}
 use Rattle.std.specs.declared.result.Result.{Result}
-use Rattle.monomials.specs.Polynomials.{Polynomial}
+use Rattle.monomials.specs.Polynomials.{Polynomial, Each, IsPolynomial}
 use Rattle.word_model.specs.Words.{Algebra}
-use Rattle.word_model.specs.Machine.{State, Turn, On, Over, step}
+use Rattle.word_model.specs.Jobs.{key_monomial}
+use Rattle.word_model.specs.Machine.{State, Turn, On, Over, step, IsElement, most_elements}
 use Rattle.word_model.specs.declared.records.Job.{Job}
 use Rattle.word_model.specs.declared.records.Mode.{Mode}
 use Rattle.word_model.specs.declared.records.Entry.{Entry}
 use Rattle.word_model.specs.declared.records.Entry.TheVariants.{Skipped, Zero, New}
 use Rattle.word_model.specs.declared.records.Outcome.{Outcome}
-use Rattle.pair_strategy.specs.Queues.{SameJobs}
+use Rattle.pair_strategy.specs.Queues.{SameJobs, IsRising, IsSet}
+use Rattle.pair_strategy.specs.declared.keys.Keyed.{Keyed}
 use Rattle.left_reduce.specs.Reductions.{start_count}
+use Rattle.commit_core.specs.Named.{IsNamed}
 use Rattle.commit_core.specs.declared.lead.Committed.{Committed}
 use Rattle.commit_core.specs.declared.lead.Committed.TheVariants.{Added, Over as Ended}
 
@@ -25,6 +28,22 @@ pub record Run : Type 0 where
   pub basis : List Polynomial
   pub jobs : List Job
   pub outcome : Option Outcome
+
+-- a job with the monomial of its key
+abbrev pub keyed : Algebra → List Polynomial → List Polynomial → Job → Keyed
+keyed A gens G job = record { mono = key_monomial A gens G job; job = job }
+
+-- What every lead has. The generators are polynomials of the algebra, at most 4096, and the elements are nonzero
+-- polynomials of it, at most as many as a basis may have. Each job that waits names a nonzero generator, or nonzero
+-- elements and variables that there are; no job waits twice, and they stand in rising order of their keys.
+pub record IsLead (run : Run) : Type 0 where
+  pub generators : Each (IsPolynomial run.algebra.p run.algebra.order) run.generators
+  pub few_generators : length run.generators ≤ 4096
+  pub elements : Each (IsElement run.algebra) run.basis
+  pub few_elements : length run.basis ≤ most_elements
+  pub jobs : Each (IsNamed run.algebra run.generators run.basis) run.jobs
+  pub set : IsSet run.jobs
+  pub rising : IsRising run.algebra.order (map (keyed run.algebra run.generators run.basis) run.jobs)
 
 -- the run is at this state of the machine: its entries, its basis, and the same jobs, in whatever order the state has them
 pub record IsAt (run : Run) (s : State) : Type 0 where

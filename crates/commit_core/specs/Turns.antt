@@ -1,4 +1,4 @@
--- What a call answers that takes a turn of the machine.
+-- What a call answers that takes a turn of the machine. Tests alone cite this.
 use Rattle.std.specs.Prelude.{◌≡◌, Option, Some, None, Ok, Err}
 use Rattle.std.specs.declared.alloc.AllocError.{AllocError}
 use Rattle.std.specs.declared.result.Result.{Result}

@@ -11,7 +11,7 @@ ghost use Rattle.word_model.specs.declared.records.Outcome.TheVariants.{BasisFul
 ghost use Rattle.gproduct.specs.Seats.{Keeps};
 ghost use Rattle.left_reduce.specs.Reductions.{start_count, ended_of};
 ghost use Rattle.commit_core.specs.Named.{IsNamed};
-ghost use Rattle.commit_core.specs.Leads.{IsAt, IsCommit, entry_count};
+ghost use Rattle.commit_core.specs.Leads.{IsLead, IsAt, IsCommit, entry_count};
 ghost use Rattle.commit_core.specs.Kept.{Turns, reduction_of};
 ghost use Rattle.commit_core.specs.declared.lead.Committed.TheVariants.{Added, Over as Ended};
 
@@ -63,8 +63,9 @@ impl Model for Lead {
 }
 
 impl Lead {
-    /// A run over copies of these generators, with no entry, no element and all seeds queued. Zero
-    /// generators keep their numbers. The budget is the most entries that it may have.
+    /// A run over copies of these generators, at most 4096, with no entry, no element and the seeds
+    /// of the nonzero generators queued. Zero generators keep their numbers. `budget`, at least 1, is
+    /// the most entries that the run may have.
     pub fn new(
         alloc: Global,
         alg: &Algebra,
@@ -101,8 +102,10 @@ impl Lead {
         ensures least { IfSome result (λ job. (s : State) (a : Job) (queue : List Job) → IsAt self.now s →
             s.queue ≡ a ∷ queue →
             least_job self.now.algebra self.now.generators self.now.basis a queue ≡ job.now) }
+        ensures facts { IsLead self.now }
     {
         pair_strategy::laws::first_is_least();
+        self.facts();
         match self.progress.queue.first() {
             Some(item) => Some(&item.job),
             None => None,
@@ -111,38 +114,49 @@ impl Lead {
 
     /// The generators, as they were given. Takes no memory.
     pub fn generators(&self) -> &[GPoly]
-        ensures { result.now ≡ self.now.generators }
+        ensures value { result.now ≡ self.now.generators }
+        ensures facts { IsLead self.now }
     {
+        self.facts();
         &self.generators
     }
 
     /// The elements so far. Takes no memory.
     pub fn basis(&self) -> &Vec<GPoly>
-        ensures { result.now.items ≡ self.now.basis }
+        ensures value { result.now.items ≡ self.now.basis }
+        ensures facts { IsLead self.now }
     {
+        self.facts();
         &self.progress.basis
     }
 
     /// The entries so far. Takes no memory.
     pub fn entries(&self) -> &[Entry]
-        ensures { result.now ≡ self.now.entries }
+        ensures value { result.now ≡ self.now.entries }
+        ensures facts { IsLead self.now }
     {
+        self.facts();
         &self.progress.entries
     }
 
     /// The first `k` jobs in the order of their keys, or all.
     pub fn ahead(&self, alloc: Global, k: usize) -> Result<Vec<Job>, AllocError>
-        ensures { IfOk result (λ jobs. jobs.items ≡ take k self.now.jobs) }
+        ensures value { IfOk result (λ jobs. jobs.items ≡ take k self.now.jobs) }
+        ensures facts { IsLead self.now }
     {
+        self.facts();
         self.progress.queue.ahead(alloc, k)
     }
 
     /// The run's journal, once it is over. Takes no memory.
     pub fn into_journal(self) -> Journal
         requires over { IsSome self.outcome }
-        ensures { (outcome : Outcome) → self.outcome ≡ Some outcome →
+        ensures value { (outcome : Outcome) → self.outcome ≡ Some outcome →
             result ≡ record { entries = self.entries; basis = self.basis; outcome = outcome } }
+        ensures elements { Each (IsElement self.algebra) result.basis }
+        ensures few { length result.basis ≤ most_elements }
     {
+        self.facts();
         let Lead {
             progress,
             outcome,
@@ -155,8 +169,10 @@ impl Lead {
         }
     }
 
-    /// One step of the machine. Once the run is over, each further commit answers the same outcome
-    /// and changes nothing. A commit for which memory is wanting leaves the lead as it was.
+    /// One step of the machine. `seat` is one of the lead's algebra, and `spec` is `None` for now.
+    /// The counter rises by the products of an entry that was added. Once the run is over, each
+    /// further commit answers the same outcome and changes nothing. A commit for which memory is
+    /// wanting leaves the lead as it was.
     pub fn commit<L: Ledger>(
         &mut self,
         alloc: Global,
@@ -190,6 +206,13 @@ impl Lead {
             Some(by) => self.enter(job, Entry::Skipped { job, by }),
             None => self.reduce_job(alloc, seat, job, steps),
         }
+    }
+
+    // What every lead has.
+    fn facts(&self)
+        ensures { IsLead self.now }
+    {
+        self.progress.queue.first();
     }
 
     // The run ends here.

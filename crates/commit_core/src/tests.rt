@@ -7,6 +7,7 @@ ghost use Rattle.monomials.specs.Polynomials.{Each, IsPolynomial};
 use super::*;
 use algebra::Relations;
 use gpoly::Term;
+use left_reduce::{reduce_from, start_of};
 use monomials::{Block, Expo, Order};
 use plain::PlainWorker;
 use prime_field::Field;
@@ -200,7 +201,7 @@ fn journal_text(alloc: Global, journal: &Journal) -> Result<String, AllocError> 
     Ok(text)
 }
 
-// The journal of an engine over these generators, as a text.
+// The journal of an engine over these generators, as a text, where it makes the same one again.
 fn run<E: Engine>(
     alloc: Global,
     engine: &mut E,
@@ -217,7 +218,12 @@ fn run<E: Engine>(
         return Err("there are at most 4096 generators".into());
     }
     let journal = engine.basis(alloc, alg, &gens, mode, budget)?;
-    Ok(journal_text(alloc, &journal)?)
+    let text = journal_text(alloc, &journal)?;
+    let again = engine.basis(alloc, alg, &gens, mode, budget)?;
+    if text != journal_text(alloc, &again)? {
+        return Err("an engine makes the same journal again".into());
+    }
+    Ok(text)
 }
 
 // The journal of the lead's run, where the plain program's is the same.
@@ -373,7 +379,29 @@ fn push_committed(text: &mut String, committed: Committed) -> Result<(), AllocEr
     Ok(())
 }
 
-// The jobs that wait, what so many commits do, and the entries after them.
+// Adds the steps by which the first job's start is reduced ahead, by the elements so far.
+fn push_ahead<L: Ledger>(
+    alloc: Global,
+    text: &mut String,
+    seat: &mut TableSeat,
+    lead: &Lead,
+    steps: &mut Steps<L>,
+) -> Result<(), Fail>
+    requires { seat.old.algebra ≡ lead.now.algebra }
+{
+    let Some(job) = lead.first() else {
+        return Ok(());
+    };
+    let basis = lead.basis();
+    let start = start_of(alloc, seat, basis, lead.generators(), job, steps)?;
+    let reduced = reduce_from(alloc, seat, basis, start, Trace::new(alloc), steps)?;
+    text.push_str("Ahead")?;
+    push_job(text, job)?;
+    push_trace(text, &reduced.trace)?;
+    Ok(())
+}
+
+// The jobs that wait, what so many commits do, the entries after them, and a job ahead.
 fn commits<L: Ledger>(
     alloc: Global,
     seat: &mut TableSeat,
@@ -398,6 +426,7 @@ fn commits<L: Ledger>(
     }
     text.push('\n')?;
     push_entries(&mut text, lead.entries())?;
+    push_ahead(alloc, &mut text, seat, lead, &mut steps)?;
     Ok(text)
 }
 
@@ -425,7 +454,7 @@ const MARKED: &str = " Seed 1 Seed 2
 Added; Added; 
 New Seed 1 times 100
 New Seed 2 100:100 by 1 100:010 by 1 times 100
-";
+Ahead Pair 1 2 1:001 by 1 100:010 by 2";
 
 #[test]
 fn reduces_the_second_seed_by_two_steps(rt: HostRuntime) -> Result<(), Fail> {
@@ -439,7 +468,7 @@ fn reduces_the_second_seed_by_two_steps(rt: HostRuntime) -> Result<(), Fail> {
 const OVER: &str = " Seed 2 Seed 1
 Added; Over BudgetSpent; Over BudgetSpent; 
 New Seed 2 times 1
-";
+Ahead Seed 1";
 
 #[test]
 fn a_lead_that_is_over_answers_the_same_again(rt: HostRuntime) -> Result<(), Fail> {

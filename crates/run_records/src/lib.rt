@@ -119,7 +119,10 @@ pub trait Engine {
     /// shared.
     ghost can_run: { Self → Type 0 };
 
-    /// The journal of the machine over these generators. Zero generators keep their numbers.
+    /// The journal of the machine over these generators, of which there are at most 4096; zero
+    /// generators keep their numbers. `mode` says on which sides the ideal is closed: on the left, or
+    /// on both. `budget`, at least 1, is the most entries that the journal may have. The engine can
+    /// run again, also where memory was wanting.
     fn basis(
         &mut self,
         alloc: Global,
@@ -132,7 +135,8 @@ pub trait Engine {
         requires sorted { Each (IsPolynomial alg.now.p alg.now.order) gens.now }
         requires few { length gens.now ≤ 4096 }
         requires some { 1 ≤ budget }
-        ensures { IfOk result (λ j. j ≡ machine alg.now gens.now mode budget) };
+        ensures value { IfOk result (λ j. j ≡ machine alg.now gens.now mode budget) }
+        ensures ready { can_run self.new };
 }
 
 #[cfg(test)]

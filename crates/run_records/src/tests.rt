@@ -23,3 +23,65 @@ fn a_row_is_copied(rt: HostRuntime) -> Result<(), Fail> {
     assert!(rt; copy.entries[1].equals(&row.entries[1]));
     Ok(())
 }
+
+// A trace of two steps in two variables.
+fn two_steps(alloc: Global) -> Result<Trace, AllocError> {
+    let mut trace = Trace::new(alloc);
+    let step = |coef: u32, mono: Expo, index: u32| TraceStep { coef, mono, index };
+    trace.push(step(6, Expo::of(&[1, 0]), 2))?;
+    trace.push(step(1, Expo::of(&[0, 3]), 1))?;
+    Ok(trace)
+}
+
+#[test]
+fn a_trace_is_copied(rt: HostRuntime) -> Result<(), Fail> {
+    let alloc = rt.alloc();
+    let trace = two_steps(alloc)?;
+    let copy = trace.copy(alloc)?;
+    assert_eq!(rt; copy.steps().len(), 2);
+    assert!(rt; copy.steps() == trace.steps());
+    Ok(())
+}
+
+// Whether two entries are equal.
+fn same(a: &Entry, b: &Entry) -> bool {
+    match (a, b) {
+        (Entry::Skipped { job, by }, Entry::Skipped { job: j, by: k }) => job == j && by == k,
+        (Entry::Zero { job, trace }, Entry::Zero { job: j, trace: t }) => {
+            job == j && trace.steps() == t.steps()
+        }
+        (
+            Entry::New { job, trace, scale },
+            Entry::New {
+                job: j,
+                trace: t,
+                scale: k,
+            },
+        ) => job == j && trace.steps() == t.steps() && scale == k,
+        _ => false,
+    }
+}
+
+// Whether the copy of an entry is equal to it.
+fn is_copied(alloc: Global, entry: &Entry) -> Result<bool, AllocError> {
+    let copy = entry.copy(alloc)?;
+    Ok(same(&copy, entry))
+}
+
+#[test]
+fn entries_are_copied(rt: HostRuntime) -> Result<(), Fail> {
+    let alloc = rt.alloc();
+    let job = Job::Pair { i: 1, j: 2 };
+    let skipped = Entry::Skipped { job, by: 3 };
+    let job = Job::Seed { s: 4 };
+    let trace = two_steps(alloc)?;
+    let zero = Entry::Zero { job, trace };
+    let job = Job::Right { i: 1, v: 2 };
+    let trace = two_steps(alloc)?;
+    let scale = 5;
+    let new = Entry::New { job, trace, scale };
+    assert!(rt; is_copied(alloc, &skipped)?);
+    assert!(rt; is_copied(alloc, &zero)?);
+    assert!(rt; is_copied(alloc, &new)?);
+    Ok(())
+}

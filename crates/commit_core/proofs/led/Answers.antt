@@ -37,7 +37,7 @@ returns-in-Over g c = λ s at. (
     let over : IsCommit old c.commit.new.self (Ok (Ended outcome)) =
     subst (λ (r : Committed). IsCommit old c.commit.new.self (Ok r)) c.in-Over.is c.in_ok-commit.ensures.step in
     let here = c.loop-lead.invariant.run s at in
-    c.into_journal.ensures outcome (ap (λ (run : Run). run.outcome) over.1)
+    c.into_journal.ensures.value outcome (ap (λ (run : Run). run.outcome) over.1)
     ∙ ap (λ (run : Run). record { entries = run.entries; basis = run.basis; outcome = outcome }) over.1
     ∙ run-over c.args.lead old outcome c.loop-lead.invariant.same over.0 here.0 here.1
     ∙ sym here.2

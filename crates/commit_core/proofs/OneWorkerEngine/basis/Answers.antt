@@ -2,8 +2,8 @@ use Rattle.std.proofs.lemmas.Result.{IfOk-weaker}
 use Rattle.commit_core.proofs.Running.{run-machine}
 use Rattle.commit_core.proofs.OneWorkerEngine.basis.Goals as goal
 
-pub returns : goal.returns
-returns c =
+pub returns-clause-value : goal.returns-clause-value
+returns-clause-value c =
     let lead = c.in_ok-lead.lead in
     let is = c.in_ok-lead.ensures in
     IfOk-weaker c.led.result _ _

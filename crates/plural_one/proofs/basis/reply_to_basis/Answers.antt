@@ -18,7 +18,7 @@ reply_to_list-requires-clause-elements g c =
     let gens : List Polynomial = c.in_ok-generators.generators.items in
     let accepted : IsAccepted A = subst IsAccepted c.algebra-algebra.ensures c.n-n.ensures.accepted in
     let made : c.in_ok-run.run' ≡ machine A gens Left run_budget =
-    c.in_ok-run.ensures ∙ (λ t. machine (c.algebra-algebra.ensures t) (c.deref.ensures.value t) Left run_budget) in
+    c.in_ok-run.ensures.value ∙ (λ t. machine (c.algebra-algebra.ensures t) (c.deref.ensures.value t) Left run_budget) in
     let elements : Each (IsElement A) c.in_ok-run.run'.basis =
     subst (λ (run : Journal). Each (IsElement A) run.basis) (sym made)
     (machine-elements A accepted gens c.in_ok-generators.ensures.polynomials Left run_budget) in
@@ -30,7 +30,7 @@ reply_to_list-requires-clause-few g c =
     let gens : List Polynomial = c.in_ok-generators.generators.items in
     let accepted : IsAccepted A = subst IsAccepted c.algebra-algebra.ensures c.n-n.ensures.accepted in
     let made : c.in_ok-run.run' ≡ machine A gens Left run_budget =
-    c.in_ok-run.ensures ∙ (λ t. machine (c.algebra-algebra.ensures t) (c.deref.ensures.value t) Left run_budget) in
+    c.in_ok-run.ensures.value ∙ (λ t. machine (c.algebra-algebra.ensures t) (c.deref.ensures.value t) Left run_budget) in
     subst (λ (run : Journal). length run.basis ≤ most_elements) (sym made)
     (machine-few A accepted gens c.in_ok-generators.ensures.polynomials Left run_budget)
 
@@ -41,7 +41,7 @@ returns-in-BudgetSpent g c =
     let word : c.as_str.result.now ≡ codes "BudgetSpent " ++ decimal run_budget =
     c.as_str.ensures.value ∙ c.in_ok-word-in-BudgetSpent.ensures.ok in
     let made : c.in_ok-run.run' ≡ machine A (map (letters_product A) words) Left run_budget =
-    c.in_ok-run.ensures
+    c.in_ok-run.ensures.value
     ∙ (λ t. machine (c.algebra-algebra.ensures t) ((c.deref.ensures.value ∙ c.in_ok-generators.ensures.values) t) Left run_budget) in
     let spent = run_spent A c.in_ok-run.run' (ap (λ (run : Journal). run.outcome) (sym c.run.view_is) ∙ c.in-BudgetSpent.is) in
     IfOk-weaker c.refusal.result _ _

@@ -10,7 +10,7 @@ pub reduced-requires-clause-elements : goal.reduced-requires-clause-elements
 reduced-requires-clause-elements g c =
     let A : Algebra = c.args.algebra.now in
     let elements : Each (IsElement A) c.in_ok-run.run'.basis =
-    subst (λ (run : Journal). Each (IsElement A) run.basis) (sym c.in_ok-run.ensures)
+    subst (λ (run : Journal). Each (IsElement A) run.basis) (sym c.in_ok-run.ensures.value)
     (machine-elements A c.n-n.ensures.accepted c.args.generators.now c.requires.sorted Left 100) in
     subst (λ (B : Algebra). Each (IsElement B) c.in_ok-run.run'.basis) (sym (c.in_ok-seat.ensures.algebra ∙ c.in_ok-table.ensures)) elements
 
@@ -18,7 +18,7 @@ pub reduced-requires-clause-few : goal.reduced-requires-clause-few
 reduced-requires-clause-few g c =
     let A : Algebra = c.args.algebra.now in
     let few : length c.in_ok-run.run'.basis ≤ most_elements =
-    subst (λ (run : Journal). length run.basis ≤ most_elements) (sym c.in_ok-run.ensures)
+    subst (λ (run : Journal). length run.basis ≤ most_elements) (sym c.in_ok-run.ensures.value)
     (machine-few A c.n-n.ensures.accepted c.args.generators.now c.requires.sorted Left 100) in
     omega (arith, few)
 

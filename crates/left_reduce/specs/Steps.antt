@@ -1,4 +1,4 @@
--- What the private types of this crate stand for, in the words of the definitions.
+-- What the private types of this crate stand for, in the words of the definitions. Private contracts alone cite it.
 use Rattle.std.specs.Prelude.{ℕ, ◌++◌, ◌&&◌, Bool, List, Option}
 use Rattle.monomials.specs.Monomials.{Monomial, minus, lcm}
 use Rattle.monomials.specs.Polynomials.{Polynomial}

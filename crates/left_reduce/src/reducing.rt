@@ -24,7 +24,8 @@ pub enum Ended {
     Zero,
     /// No leading monomial of an element divides that of what is left.
     Irreducible,
-    /// The next step has a product of a degree above 4095, so that it was not made.
+    /// The factors of the next step have degrees that add up to more than 4095, so that it was not
+    /// made.
     DegreeOver,
 }
 
@@ -46,7 +47,8 @@ impl Model for Reduced {
 
 /// The reduction of `h` by the elements: the first one whose leading monomial divides that of `h`
 /// cancels the leading term, and so on. Its steps are put behind those of `trace`, so that a
-/// reduction by the first elements of a list is gone on with by all of them.
+/// reduction by the first elements of a list is gone on with by all of them. Counts a product for
+/// each step that it adds.
 pub fn reduce_from<B: Elements, L: Ledger>(
     alloc: Global,
     seat: &mut TableSeat,
@@ -82,7 +84,8 @@ pub fn reduce_from<B: Elements, L: Ledger>(
 
 /// The normal form of `h` by the elements, with its steps: the greatest term that some element's
 /// leading monomial divides, leading or not, is cancelled by the first such element, until there is
-/// none. `DegreeOver` comes exactly where the next step has a product of a degree above 4095.
+/// none. `DegreeOver` comes exactly where the factors of one of its steps have degrees that add up to
+/// more than 4095. Counts a product for each step.
 pub fn normal_form<B: Elements, L: Ledger>(
     alloc: Global,
     seat: &mut TableSeat,
@@ -107,8 +110,8 @@ pub fn normal_form<B: Elements, L: Ledger>(
 }
 
 /// The reduction of the tail of `h` by the elements, with its steps: as the normal form, but the
-/// leading term stays. `DegreeOver` comes exactly where the next step has a product of a degree
-/// above 4095.
+/// leading term stays. `DegreeOver` comes exactly where the factors of one of its steps have degrees
+/// that add up to more than 4095. Counts a product for each step.
 pub fn reduce_tail<B: Elements, L: Ledger>(
     alloc: Global,
     seat: &mut TableSeat,

@@ -16,8 +16,9 @@ use std::alloc::Global;
 use std::sync::ledger::Ledger;
 
 /// The start polynomial of a job over these generators and this basis: a generator, the S-polynomial
-/// of two elements, or an element times a variable. `DegreeOver` comes exactly where a product of it
-/// has a degree above 4095.
+/// of two elements, or an element times a variable. The job's numbers are in range, and what it names
+/// is not zero. `DegreeOver` comes exactly where the factors of a product of it have degrees that add
+/// up to more than 4095. Counts no product for a generator, two for an S-polynomial, one else.
 pub fn start_of<B: Elements, L: Ledger>(
     alloc: Global,
     seat: &mut TableSeat,

@@ -21,7 +21,8 @@ pub struct Keyed {
 }
 
 /// The job with the monomial of its key: the leading monomial of a seed's generator, the lcm of
-/// those of a pair, or that of an element times a variable. Takes no memory.
+/// those of a pair, or that of an element times a variable. The job's numbers are in range, and what
+/// it names is not zero. Takes no memory.
 pub fn job_key<B: Elements>(basis: &B, gens: &[GPoly], job: &Job) -> Keyed
     requires in_range { (n : ℕ) × Each (HasVars n) gens.now × Each (HasVars n) (B.elements basis.now)
         × IsJob (length gens.now) (length (B.elements basis.now)) n job.now }

@@ -14,7 +14,7 @@ use run_records::{Elements, Job};
 
 /// The number of the least element by which the pair of the elements `i` and `j` is skipped: a third
 /// one whose leading monomial divides the lcm of theirs, and whose pairs with both are no longer
-/// queued. Takes no memory.
+/// queued. The first of the two has the lower number, and neither is zero. Takes no memory.
 pub fn chain_witness<B: Elements>(queue: &Queue, basis: &B, i: u32, j: u32) -> Option<u32>
     requires few { length (B.elements basis.now) ≤ 4294967295 }
     requires vars { (n : ℕ) × Each (HasVars n) (B.elements basis.now) }

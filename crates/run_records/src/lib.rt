@@ -13,7 +13,7 @@ use std::marker::Model;
 pub use word_model::records::{Entry, Job, Mode, Outcome, Trace, TraceStep};
 
 /// A run of the machine: what it did with its jobs in order, the basis that it made, and how it
-/// ended. The basis is a Gröbner basis where the outcome is `Finished`.
+/// ended. That the basis of a `Finished` run is a Gröbner basis is not proved.
 #[derive(Debug, Drop)]
 pub struct Journal {
     pub entries: Vec<Entry>,

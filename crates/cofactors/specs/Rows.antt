@@ -1,4 +1,4 @@
--- Rows of polynomials of an algebra.
+-- Rows of polynomials of an algebra: words of the private functions and of lemmas, which no public contract cites.
 use Rattle.std.specs.Prelude.{◌≡◌, ℕ, ◌<◌, ◌≤◌, ◌&&◌, Bool, length}
 use Rattle.monomials.specs.Monomials.{Monomial, minus, lcm}
 use Rattle.monomials.specs.Polynomials.{Polynomial, Each, IsPolynomial}

@@ -1,4 +1,5 @@
--- What the entries of a machine's journal are like, so that a walk through them can make every product that they name.
+-- What the entries of a machine's journal are like, so that a walk through them can make every product that they name:
+-- words of the private functions and of lemmas, which no public contract cites.
 use Rattle.std.specs.Prelude.{◌≡◌, ◌≢◌, ℕ, suc, ◌<◌, ◌≤◌, List, [], ◌∷◌, length, None}
 use Rattle.monomials.specs.Monomials.{degree}
 use Rattle.monomials.specs.Polynomials.{Polynomial, Each}

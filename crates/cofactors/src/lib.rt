@@ -1,5 +1,5 @@
-//! Rows of cofactors: how the finished elements of a left run are left combinations of its
-//! generators.
+//! Rows of cofactors: how the finished elements of a left run are meant to be left combinations of
+//! its generators, and a check of such a row.
 #![tactic(auto)]
 
 ghost use Rattle.std.specs.Prelude.{◌≡◌, ◌↔◌, ℕ, ◌≤◌, true, false, length, IsTrue, IfOk, OnOk, Err, Some, None};
@@ -40,7 +40,7 @@ pub fn rows<L: Ledger>(
     steps: &mut Steps<L>,
 ) -> Result<Vec<Row>, ProductFault>
     requires generators { Each (IsPolynomial seat.old.algebra.p seat.old.algebra.order) gens.now }
-    requires few { length gens.now ≤ 4096 }
+    requires few { length gens.now ≤ 4294967295 }
     requires left_run { (budget : ℕ) × (journal.now ≡ machine seat.old.algebra gens.now Left budget) }
     requires finished { journal.now.outcome ≡ Ended }
     requires list { finished seat.old.algebra journal.now.basis ≡ Some list.now }
@@ -49,6 +49,7 @@ pub fn rows<L: Ledger>(
         cofactor_rows seat.old.algebra gens.now journal.now list.now ≡ None }
     ensures sorted { IfOk result (λ rows.
         Each (Each (IsPolynomial seat.old.algebra.p seat.old.algebra.order)) rows.items) }
+    ensures one_entry_each { IfOk result (λ rows. Each (λ row. length row ≡ length gens.now) rows.items) }
     ensures algebra { seat.new.algebra ≡ seat.old.algebra }
     ensures kept { Keeps seat.old seat.new }
 {
@@ -61,8 +62,9 @@ pub fn rows<L: Ledger>(
     Ok(rows)
 }
 
-/// Whether the value of a row over these generators is the element. `DegreeOver` comes exactly where
-/// a product of an entry with its generator has a degree above 4095.
+/// Whether the value of a row over these generators is the element. The row has an entry for each
+/// generator. `DegreeOver` comes exactly where a product of an entry with its generator has a degree
+/// above 4095.
 pub fn check_row<L: Ledger>(
     alloc: Global,
     seat: &mut TableSeat,

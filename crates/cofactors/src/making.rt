@@ -32,7 +32,7 @@ pub(crate) fn basis_rows<L: Ledger>(
     entries: &[Entry],
     steps: &mut Steps<L>,
 ) -> Result<Vec<Row>, ProductFault>
-    requires few { length gens.now ≤ 4096 }
+    requires few { length gens.now ≤ 4294967295 }
     requires elements { Each (IsElement seat.old.algebra) basis.now }
     requires sound { AreSound seat.old.algebra gens.now basis.now Left 0 entries.now }
     requires made { behind_all 0 entries.now ≡ length basis.now }
@@ -62,7 +62,7 @@ fn add_row<L: Ledger>(
     rows: &mut Vec<Row>,
     steps: &mut Steps<L>,
 ) -> Result<(), ProductFault>
-    requires few { length gens.now ≤ 4096 }
+    requires few { length gens.now ≤ 4294967295 }
     requires elements { Each (IsElement seat.old.algebra) basis.now }
     requires rows { Each (IsRow seat.old.algebra (length gens.now)) rows.old.items }
     requires sound { IsSound seat.old.algebra gens.now basis.now Left (length rows.old.items) entry.now }
@@ -124,7 +124,7 @@ fn start_row<L: Ledger>(
     job: Job,
     steps: &mut Steps<L>,
 ) -> Result<Vec<GPoly>, ProductFault>
-    requires few { length gens.now ≤ 4096 }
+    requires few { length gens.now ≤ 4294967295 }
     requires elements { Each (IsElement seat.old.algebra) basis.now }
     requires rows { Each (IsRow seat.old.algebra (length gens.now)) rows.now }
     requires made { length rows.now ≤ length basis.now }
@@ -151,7 +151,7 @@ fn unit_row(
     count: usize,
     s: u32,
 ) -> Result<Vec<GPoly>, AllocError>
-    requires few { count ≤ 4096 }
+    requires few { count ≤ 4294967295 }
     requires first { 1 ≤ s }
     requires last { s ≤ count }
     ensures value { IfOk result (λ r. r.items ≡ unit_row algebra.now count s) }
@@ -165,7 +165,7 @@ fn unit_row(
 
 // So many zeros.
 fn zeros(alloc: Global, count: usize) -> Result<Vec<GPoly>, AllocError>
-    requires few { count ≤ 4096 }
+    requires few { count ≤ 4294967295 }
     ensures { IfOk result (λ r. r.items ≡ replicate count []) }
 {
     let mut zeros = Vec::with_capacity(alloc, count)?;

@@ -1,4 +1,4 @@
--- How a finished list is made, step by step.
+-- How a finished list is made, step by step: words of the private functions, which no public contract cites.
 use Rattle.std.specs.Prelude.{◌≢◌, ℕ, Bool, List, [], ◌∷◌, Option, if◌then◌else◌}
 use Rattle.monomials.specs.Polynomials.{Polynomial, HasVars}
 use Rattle.word_model.specs.Words.{Algebra}

@@ -47,6 +47,7 @@ pub(crate) fn ascending<E: Elements, L: Ledger>(
     requires few { length (E.elements elements.now) ≤ 4294967295 }
     ensures value { IfOk result (λ finals.
         finals_from seat.old.algebra (E.elements elements.now) 1 (E.elements elements.now) ≡ Some finals.items) }
+    ensures finals { IfOk result (λ finals. Each (λ x. IsElement seat.old.algebra x.polynomial) finals.items) }
     ensures over { result ≡ Err ProductFault.DegreeOver →
         finals_from seat.old.algebra (E.elements elements.now) 1 (E.elements elements.now) ≡ None }
     ensures algebra { seat.new.algebra ≡ seat.old.algebra }

@@ -1,5 +1,5 @@
-//! The finished list of a run: what is left of its basis when no element is needless, and all tails
-//! are reduced.
+//! The finished list of a run: what is left of its basis when needless elements are dropped and all
+//! tails are reduced.
 #![tactic(auto)]
 
 ghost use Rattle.std.specs.Prelude.{◌≡◌, ◌≤◌, length, IfOk, Err, Some, None};
@@ -35,6 +35,9 @@ pub fn reduced<L: Ledger>(
     requires elements { Each (IsElement seat.old.algebra) journal.now.basis }
     requires few { length journal.now.basis ≤ 4294967295 }
     ensures list { IfOk result (λ f. finished seat.old.algebra journal.now.basis ≡ Some f) }
+    ensures elements { IfOk result (λ f. Each (IsElement seat.old.algebra) f.list) }
+    ensures one_origin_each { IfOk result (λ f. length f.origin ≡ length f.list) }
+    ensures one_tail_each { IfOk result (λ f. length f.tails ≡ length f.list) }
     ensures over { result ≡ Err ProductFault.DegreeOver → finished seat.old.algebra journal.now.basis ≡ None }
     ensures algebra { seat.new.algebra ≡ seat.old.algebra }
     ensures kept { Keeps seat.old seat.new }

@@ -15,7 +15,7 @@ use Rattle.cofactors.proofs.Finals.{finished-tails}
 use Rattle.cofactors.proofs.RowLaws.{length-all_rows, cofactor_rows-is, cofactor_rows-entries, cofactor_rows-tails, cofactor_rows-values}
 use Rattle.cofactors.proofs.rows.Goals as goal
 use Rattle.cofactors.proofs.rows.Given as given
-use Rattle.cofactors.proofs.rows.Goals.{After-deref-2, After-deref-3}
+use Rattle.cofactors.proofs.rows.Goals.{After-deref-2, After-deref-3, After-deref-4}
 
 -- the algebra is accepted
 accepted : (g : given.Over) (c : After-deref-2 g) → IsAccepted c.args.seat.now.algebra
@@ -145,14 +145,25 @@ returns-clause-value g c =
     cofactor_rows-is A c.args.gens.now J F R c.in_ok-rows.rows.items (made_of_journal g at.After-deref-3) entries c.in_ok-rows.ensures.within rows_are
     (ap (λ rows. values_reach rows c.args.gens.now) (sym c.deref-4.ensures.value) ∙ sym c.values_reach.ensures ∙ on)
 
-pub returns-clause-sorted : goal.returns-clause-sorted
-returns-clause-sorted g c =
+-- the rows that are handed out
+are_rows : (g : given.Over) (c : After-deref-4 g) → Each (IsRow c.args.seat.now.algebra (length c.args.gens.now)) c.in_ok-rows.rows.items
+are_rows g c =
     let A = c.args.seat.now.algebra in
     let n = length c.args.gens.now in
     let B = c.basis_rows.new.seat.algebra in
     let made : Each (IsRow B n) c.deref-3.result.now =
     subst (λ (B : Algebra). Each (IsRow B n) c.deref-3.result.now) (sym c.basis_rows.ensures.algebra)
     (subst (Each (IsRow A n)) (sym c.deref-3.ensures.value) c.in_ok-made.ensures.sorted) in
-    let rows_are : Each (IsRow A n) c.in_ok-rows.rows.items =
-    subst (λ (B : Algebra). Each (IsRow B n) c.in_ok-rows.rows.items) c.basis_rows.ensures.algebra (c.in_ok-rows.ensures.sorted n made) in
-    Each-weaker (IsRow A n) (λ (row : Row). Each (IsPolynomial A.p A.order) row) (λ row is. is.sorted) c.in_ok-rows.rows.items rows_are
+    subst (λ (B : Algebra). Each (IsRow B n) c.in_ok-rows.rows.items) c.basis_rows.ensures.algebra (c.in_ok-rows.ensures.sorted n made)
+
+pub returns-clause-sorted : goal.returns-clause-sorted
+returns-clause-sorted g c =
+    let A = c.args.seat.now.algebra in
+    Each-weaker (IsRow A (length c.args.gens.now)) (λ (row : Row). Each (IsPolynomial A.p A.order) row) (λ row is. is.sorted) c.in_ok-rows.rows.items
+    (are_rows g (goal.at.returns-clause-sorted g c).After-deref-4)
+
+pub returns-clause-one_entry_each : goal.returns-clause-one_entry_each
+returns-clause-one_entry_each g c =
+    let n = length c.args.gens.now in
+    Each-weaker (IsRow c.args.seat.now.algebra n) (λ (row : Row). length row ≡ n) (λ row is. is.one_each) c.in_ok-rows.rows.items
+    (are_rows g (goal.at.returns-clause-one_entry_each g c).After-deref-4)

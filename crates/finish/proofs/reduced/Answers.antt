@@ -1,8 +1,10 @@
-use Rattle.std.proofs.Common.{◌≡◌, ◌≤◌, sym, ap, subst, arith, length, Some, None}
+use Rattle.std.proofs.Common.{◌≡◌, ◌≤◌, ◌∙◌, sym, ap, subst, arith, length, Some, None}
 use Rattle.std.proofs.lemmas.Result.{err_from_is_err_and}
+use Rattle.std.proofs.lemmas.List.{length-map}
 use Rattle.monomials.specs.Polynomials.{Each}
-use Rattle.word_model.specs.Finished.{finished}
+use Rattle.word_model.specs.Finished.{finished, Final, FinishedList}
 use Rattle.word_model.specs.Machine.{IsElement, Journal}
+use Rattle.word_model.proofs.Letters.{Each-map}
 use Rattle.finish.proofs.Finishing.{met_fault, nonzero_in, kept-sorted, length-kept, finished-is, finished-none}
 use Rattle.finish.proofs.reduced.Goals as goal
 
@@ -33,3 +35,19 @@ returns-clause-list g c =
     let A = c.args.seat.now.algebra in
     subst (λ (J : Journal). finished A J.basis ≡ Some c.in_ok-split.field-0) c.journal.view_is
     (finished-is A c.journal.inside.basis.items _ c.in_ok-finals.finals.items c.in_ok-split.field-0 c.in_ok-kept.ensures c.in_ok-finals.ensures.value c.in_ok-split.ensures)
+
+pub returns-clause-elements : goal.returns-clause-elements
+returns-clause-elements g c =
+    let A = c.args.seat.now.algebra in
+    subst (λ (f : FinishedList). Each (IsElement A) f.list) (sym c.in_ok-split.ensures)
+    (Each-map (IsElement A) (λ (x : Final). x.polynomial) c.in_ok-finals.finals.items c.in_ok-finals.ensures.finals)
+
+pub returns-clause-one_origin_each : goal.returns-clause-one_origin_each
+returns-clause-one_origin_each g c =
+    subst (λ (f : FinishedList). length f.origin ≡ length f.list) (sym c.in_ok-split.ensures)
+    (length-map c.in_ok-finals.finals.items (λ (x : Final). x.origin) ∙ sym (length-map c.in_ok-finals.finals.items (λ (x : Final). x.polynomial)))
+
+pub returns-clause-one_tail_each : goal.returns-clause-one_tail_each
+returns-clause-one_tail_each g c =
+    subst (λ (f : FinishedList). length f.tails ≡ length f.list) (sym c.in_ok-split.ensures)
+    (length-map c.in_ok-finals.finals.items (λ (x : Final). x.tail) ∙ sym (length-map c.in_ok-finals.finals.items (λ (x : Final). x.polynomial)))

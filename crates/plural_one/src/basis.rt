@@ -86,7 +86,6 @@ fn reply_to_list<L: Ledger>(
     ensures { IfOk result (λ reply. given reply ≡ list_answer seat.old.algebra (finished seat.old.algebra run.now.basis)) }
 {
     let algebra = seat.algebra();
-    let _n = algebra.n();
     match reduced(alloc, seat, run, steps) {
         Ok(finished) => {
             let names = variable_names(alloc)?;

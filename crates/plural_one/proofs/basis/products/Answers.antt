@@ -1,4 +1,4 @@
-use Rattle.std.proofs.Common.{◌≡◌, ◌∙◌, sym, subst, ap, arith}
+use Rattle.std.proofs.Common.{◌∙◌, sym, subst, ap, arith}
 use Rattle.word_model.specs.Words.{Algebra, IsWord}
 use Rattle.plural_one.specs.Readings.{IsScriptWord}
 use Rattle.plural_one.proofs.Bases.{mapped_at}

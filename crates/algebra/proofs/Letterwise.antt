@@ -7,7 +7,7 @@ use Rattle.monomials.specs.Polynomials.{Polynomial, Each, HasVars, IsPolynomial,
 use Rattle.monomials.proofs.Keys.{Each-append, Each-weaker, EachKey-poly_scale}
 use Rattle.gpoly.specs.declared.Term.{Term}
 use Rattle.gpoly.specs.Terms.{pair_of, pairs_of}
-use Rattle.word_model.specs.Words.{Algebra, Word, IsWord, sorted_word, word_value, IsPaired}
+use Rattle.word_model.specs.Words.{Algebra, Word, IsWord, sorted_word, word_value, RewritesDown}
 use Rattle.word_model.specs.Products.{product, variable_polynomial, times_letters, with_letter}
 use Rattle.word_model.proofs.Letters.{Each-map, Each-both, IsWord-sorted_word, length-word_from}
 use Rattle.word_model.proofs.NormalForms.{product-variable}
@@ -61,8 +61,8 @@ letters_more A f g w i inside is =
     ap (λ h. times_letters A h (drop (i + 1) w)) is ∙ sym (ap (times_letters A f) (drop_more w i 0 inside))
 
 -- it has at most one degree more, and one letter less is left
-pub degree_more : (A : Algebra) → IsPaired A → (f g : Polynomial) (w : Word) (i : ℕ) → i < length w → HasVars A.order.vars f
+pub degree_more : (A : Algebra) → RewritesDown A → (f g : Polynomial) (w : Word) (i : ℕ) → i < length w → HasVars A.order.vars f
     → 1 ≤ get_or w i 0 → get_or w i 0 ≤ A.order.vars → g ≡ product A f (variable_polynomial A (get_or w i 0))
     → poly_degree f + length (drop i w) ≤ 4095 → poly_degree g + length (drop (i + 1) w) ≤ 4095
-degree_more A paired f g w i inside vars low high is small =
-    omega (arith, ap poly_degree is, poly_degree-variable A paired f (get_or w i 0) vars low high, ap length (drop_more w i 0 inside))
+degree_more A downward f g w i inside vars low high is small =
+    omega (arith, ap poly_degree is, poly_degree-variable A downward f (get_or w i 0) vars low high, ap length (drop_more w i 0 inside))

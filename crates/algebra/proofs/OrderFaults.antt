@@ -7,7 +7,7 @@ use Rattle.monomials.specs.Polynomials.{Polynomial, Each, from_terms, poly_degre
 use Rattle.monomials.proofs.Keys.{Each-weaker, EachKey-from_terms}
 use Rattle.gpoly.proofs.TermLists.{poly_degree_small}
 use Rattle.word_model.specs.Words.{Algebra, c_of, d_of}
-use Rattle.word_model.specs.Conditions.{Fault, IsAccepted, first_from, is_below, pair_fault, pairs_fault, triple_fault, triples_fault, relations_fault, rest_fault}
+use Rattle.word_model.specs.Conditions.{Fault, IsGAlgebra, first_from, is_below, pair_fault, pairs_fault, triple_fault, triples_fault, relations_fault, rest_fault}
 use Rattle.word_model.proofs.Faults.{or_else, row_fault, triples_none}
 use Rattle.algebra.specs.declared.AlgebraFault.{AlgebraFault}
 use Rattle.algebra.specs.declared.AlgebraFault.TheVariants.{Coefficient, Profile, Ordering, NonDegeneracy, Memory}
@@ -35,13 +35,13 @@ pairs_fault-some A f e =
     let place = first_from-some (λ j. pair_fault A row.0 j) (suc row.0) (A.order.vars - row.0) f row.3 in
     (row.0, place.0, row.1, place.1, omega (arith, place.2, row.2), place.3)
 
-module _ (A : Algebra) (o : RowOrder) (vars : o.vars ≡ A.order.vars) (ok : IsAccepted A) where
+module _ (A : Algebra) (o : RowOrder) (vars : o.vars ≡ A.order.vars) (ok : IsGAlgebra A) where
   -- a pair's fault is that of the order
   pair_fault-reordered : (i j : ℕ) (f : Fault) → 1 ≤ i → i < j → j ≤ o.vars → pair_fault (reordered o A) i j ≡ Some f → f ≡ Fault.Ordering i j
   pair_fault-reordered i j f low falls high e =
       let bound : j ≤ A.order.vars = omega (arith, high, vars) in
-      let nonzero : c_of (reordered o A) i j ≡ 0 → ⊥ = λ z. ok.regular.nonzero i j low falls bound (ap (λ c. c % A.p) (sym (c_of-reordered A o vars i j) ∙ z)) in
-      let small : Each (λ t. degree t.1 ≤ 2) (d_of A i j) = Each-weaker _ _ (λ t h. h.1) (d_of A i j) (ok.paired.small i j low falls bound) in
+      let nonzero : c_of (reordered o A) i j ≡ 0 → ⊥ = λ z. ok.nonzero.nonzero i j low falls bound (ap (λ c. c % A.p) (sym (c_of-reordered A o vars i j) ∙ z)) in
+      let small : Each (λ t. degree t.1 ≤ 2) (d_of A i j) = Each-weaker _ _ (λ t h. h.1) (d_of A i j) (ok.downward.small i j low falls bound) in
       let few : poly_degree (d_of (reordered o A) i j) ≤ 2 =
       subst (λ (d : Polynomial). poly_degree d ≤ 2) (sym (d_of-reordered A o vars i j))
       (poly_degree_small 2 (from_terms (order_cmp o.rows) A.p (d_of A i j)) (EachKey-from_terms (order_cmp o.rows) A.p (λ m. degree m ≤ 2) (d_of A i j) small)) in

@@ -5,7 +5,7 @@ use Rattle.monomials.specs.Monomials.{Monomial, degree}
 use Rattle.monomials.specs.Polynomials.{Polynomial, Each}
 use Rattle.monomials.proofs.Modulo.{Same, same_refl, same_mul, same_rest, same_cancel, same_none}
 use Rattle.monomials.proofs.Keys.{Each-append, Each-weaker}
-use Rattle.word_model.specs.Words.{Algebra, Word, WordSum, IsWord, IsSmall, sorted_word, c_of, d_of, word_value, IsPaired}
+use Rattle.word_model.specs.Words.{Algebra, Word, WordSum, IsWord, IsSmall, sorted_word, c_of, d_of, word_value, RewritesDown}
 use Rattle.word_model.specs.Conditions.{times_words, overlap}
 use Rattle.word_model.proofs.Letters.{Each-map, IsWord-sorted_word, length-word_from}
 use Rattle.word_model.proofs.NormalForms.{word_weight, weigh-word_value, word_value_is_polynomial, same_weights}
@@ -70,7 +70,7 @@ IsPending-reduced p n f pos h = record {
   short = Each-map (λ t. length t.1 ≤ 4095) (λ t. (t.0 % p, t.1)) f (Each-weaker _ _ (λ t fit. fit.1) f h);
 }
 
-module _ (A : Algebra) (paired : IsPaired A) where
+module _ (A : Algebra) (downward : RewritesDown A) where
   -- the words of d_ij with a letter behind or before them
   fit_last : (c i j v : ℕ) → 1 ≤ i → i < j → j ≤ A.order.vars → 1 ≤ v → v ≤ A.order.vars
       → Each (λ t. IsFit A.order.vars t.1) (times_words c (λ m. sorted_word m ++ v ∷ []) (d_of A i j))
@@ -79,7 +79,7 @@ module _ (A : Algebra) (paired : IsPaired A) where
       (Each-weaker _ _ (λ t small. (
         Each-append _ (sorted_word t.1) (v ∷ []) (IsWord-sorted_word A.order.vars t.1 small.0) ((low, high), tt),
         omega (arith, length-append (sorted_word t.1) (v ∷ []), length-word_from 1 t.1, small.1),
-      )) (d_of A i j) (paired.small i j first pair last))
+      )) (d_of A i j) (downward.small i j first pair last))
 
   fit_first : (c i j v : ℕ) → 1 ≤ i → i < j → j ≤ A.order.vars → 1 ≤ v → v ≤ A.order.vars
       → Each (λ t. IsFit A.order.vars t.1) (times_words c (λ m. v ∷ sorted_word m) (d_of A i j))
@@ -88,7 +88,7 @@ module _ (A : Algebra) (paired : IsPaired A) where
       (Each-weaker _ _ (λ t small. (
         ((low, high), IsWord-sorted_word A.order.vars t.1 small.0),
         omega (arith, length-word_from 1 t.1, small.1),
-      )) (d_of A i j) (paired.small i j first pair last))
+      )) (d_of A i j) (downward.small i j first pair last))
 
   -- the words of a triple
   pub overlap_fits : (i j k : ℕ) → 1 ≤ i → i < j → j < k → k ≤ A.order.vars → Each (λ t. IsFit A.order.vars t.1) (overlap A i j k)

@@ -9,7 +9,7 @@ use Rattle.monomials.proofs.Keys.{Each-weaker}
 use Rattle.monomials.proofs.Operations.{IsPolynomial-poly_scale}
 use Rattle.word_model.specs.Words.{Algebra, Word, WordSum, IsWord, word_from, sorted_word, rewritten, word_value}
 use Rattle.word_model.specs.Products.{product}
-use Rattle.word_model.specs.Conditions.{NonZero, IsAccepted}
+use Rattle.word_model.specs.Conditions.{NonZero, IsGAlgebra}
 use Rattle.word_model.proofs.Letters.{monomial_of-sorted_word}
 use Rattle.word_model.proofs.Descents.{descent, leftmost_descent-sorted_word}
 use Rattle.word_model.proofs.Termination.{normal_form-sorted}
@@ -87,7 +87,7 @@ module _ (A : Algebra) (above_one : 1 < A.p) where
 
 -- ---- sums of words
 
-module _ (A : Algebra) (accepted : IsAccepted A) where
+module _ (A : Algebra) (accepted : IsGAlgebra A) where
   -- a word of a sum may be replaced by what any two of its letters in descending order are rewritten to
   pub word_value-pair : (f : WordSum) (k : ℕ) (u : Word) (j i : ℕ) (v : Word) (g : WordSum) → IsWord A.order.vars (u ++ j ∷ i ∷ v) → i < j
       → word_value A (f ++ (k, u ++ j ∷ i ∷ v) ∷ g) ≡ word_value A (f ++ (map (λ t. (k * t.0, t.1)) (rewritten A (descent u j i v)) ++ g))
@@ -102,7 +102,7 @@ module _ (A : Algebra) (accepted : IsAccepted A) where
       ∙ same_refl A.p _ _ (weigh-append ψ f ((k, w) ∷ g))
       ∙ same_add A.p _ _ _ _ refl
       (same_add A.p _ _ _ _
-      (same_mul A.p k _ _ (same_refl A.p _ _ (ap (weigh φ) (normal_form-pair A accepted.paired accepted.confluent accepted.field.more u j i v word ij)) ∙ weigh-word_value A φ s)) refl)
+      (same_mul A.p k _ _ (same_refl A.p _ _ (ap (weigh φ) (normal_form-pair A accepted.downward accepted.confluent accepted.field.more u j i v word ij)) ∙ weigh-word_value A φ s)) refl)
       ∙ same_refl A.p _ _ (sym (weigh-append ψ f (ks ++ g) ∙ ap (λ x. weigh ψ f + x) (weigh-append ψ ks g ∙ ap (λ x. x + weigh ψ g) (weigh-times ψ k (λ v. v) s))))
       ∙ sym (weigh-word_value A φ (f ++ (ks ++ g))))
 
@@ -114,8 +114,8 @@ NonZero-leading A [] h some = absurd (some refl)
 NonZero-leading A (t ∷ f) h some = NonZero-below A.p t.0 h.canonical.0 h.canonical.1
 
 -- the leading number of a product of nonzero polynomials is not zero
-pub leading_coefficient-product : (A : Algebra) → IsAccepted A → (f g : Polynomial) → IsPolynomial A.p A.order f → IsPolynomial A.p A.order g → f ≢ [] → g ≢ []
+pub leading_coefficient-product : (A : Algebra) → IsGAlgebra A → (f g : Polynomial) → IsPolynomial A.p A.order f → IsPolynomial A.p A.order g → f ≢ [] → g ≢ []
     → NonZero A.p (leading_coefficient (product A f g))
 leading_coefficient-product A accepted f g hf hg fs gs =
     NonZero-leading A (product A f g) (product_is_polynomial A accepted.field.more f g)
-    (leading_monomial-product A accepted.field accepted.paired accepted.regular f g fs gs hf hg).0
+    (leading_monomial-product A accepted.field accepted.downward accepted.nonzero f g fs gs hf hg).0

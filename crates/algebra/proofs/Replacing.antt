@@ -9,7 +9,7 @@ use Rattle.monomials.proofs.Weights.{weigh, weigh-append, weigh-times, weigh-fro
 use Rattle.monomials.proofs.Operations.{IsPolynomial-from_terms}
 use Rattle.monomials.proofs.Keys.{Each-append, Each-first, Each-second, Each-weaker}
 use Rattle.monomials.proofs.OrderLaws.{order_cmp_tied}
-use Rattle.word_model.specs.Words.{Algebra, Word, WordSum, IsWord, monomial_of, sorted_word, Descent, leftmost_descent, rewritten, c_of, d_of, pair_index, word_value, IsPaired}
+use Rattle.word_model.specs.Words.{Algebra, Word, WordSum, IsWord, monomial_of, sorted_word, Descent, leftmost_descent, rewritten, c_of, d_of, pair_index, word_value, RewritesDown}
 use Rattle.word_model.proofs.Letters.{Each-map, degree-monomial_of, length-counts_from}
 use Rattle.word_model.proofs.Descents.{word_of, found_descent}
 use Rattle.word_model.proofs.Termination.{measure, IsLess, normal_form-sorted}
@@ -136,7 +136,7 @@ module _ (A : Algebra) where
     small = Each-append _ sorted _ h.small (omega (arith, degree-monomial_of A.order.vars w (Each-second _ rest ((k, w) ∷ []) h.pending.words).0, (Each-second _ rest ((k, w) ∷ []) h.pending.short).0), tt);
   }
 
-  module _ (paired : IsPaired A) where
+  module _ (downward : RewritesDown A) where
     -- the words of a replacement are less than the word
     step_less : (w : Word) (s : Descent) → IsWord A.order.vars w → length w ≤ 4095 → leftmost_descent w ≡ Some s
         → IsLess A 4095 w (with_swapped s) × Each (λ t. IsLess A 4095 w (with_monomial s t.1)) (d_of A s.low s.high)
@@ -145,7 +145,7 @@ module _ (A : Algebra) where
         let there : IsWord A.order.vars (word_of s) = subst (IsWord A.order.vars) found.0 word in
         let len : length (word_of s) ≤ 4095 = subst (λ w. length w ≤ 4095) found.0 short in
         subst (λ w. IsLess A 4095 w (with_swapped s) × Each (λ t. IsLess A 4095 w (with_monomial s t.1)) (d_of A s.low s.high)) (sym found.0)
-        (less_swapped A 4095 s.before s.high s.low s.after there len found.1, less_replaced A paired 4095 s.before s.high s.low s.after there len found.1)
+        (less_swapped A 4095 s.before s.high s.low s.after there len found.1, less_replaced A downward 4095 s.before s.high s.low s.after there len found.1)
 
     -- so each has what follows from that
     replaced_by : (P : ℕ × Word → Type 0) (k : ℕ) (w : Word) (s : Descent) → IsWord A.order.vars w → length w ≤ 4095 → leftmost_descent w ≡ Some s
@@ -184,7 +184,7 @@ module _ (A : Algebra) where
           weights = λ φ.
               (same_refl A.p _ _ (ap (λ x. x + weigh φ sorted) (weigh-append (word_weight A φ) rest (replacement A k s)))
               ∙ same_add A.p _ _ (weigh φ sorted) (weigh φ sorted) (same_add A.p (weigh (word_weight A φ) rest) _ _ _ refl
-              (weigh-replacement (word_weight A φ) k s ∙ same_mul A.p k _ _ (sym (word_weight-descent A φ paired w s word is)))) refl
+              (weigh-replacement (word_weight A φ) k s ∙ same_mul A.p k _ _ (sym (word_weight-descent A φ downward w s word is)))) refl
               ∙ same_refl A.p _ _ (omega (arith, weigh-append (word_weight A φ) rest ((k, w) ∷ [])))
               ∙ h.weights φ);
           numbers = h.numbers;

@@ -2,7 +2,7 @@
 
 ghost use Rattle.std.specs.Prelude.{◌≡◌, ◌+◌, ◌<◌, ◌≤◌, IfOk, length};
 ghost use Rattle.monomials.specs.Polynomials.{IsPolynomial};
-ghost use Rattle.word_model.specs.Words.{IsPaired, d_of};
+ghost use Rattle.word_model.specs.Words.{RewritesDown, d_of};
 ghost use Rattle.word_model.specs.Conditions.{is_below, overlap, pair_fault, pairs_fault, triple_fault, triple_rest, triples_fault};
 ghost use Rattle.algebra.specs.Faults.{Answers, row_fault, line_fault, plane_fault};
 ghost use Rattle.algebra.specs.WordSums.{words_of, reduced};
@@ -75,7 +75,7 @@ impl Presentation {
 
     /// Tests all triples.
     pub(crate) fn test_triples(&self, alloc: Global) -> Result<(), AlgebraFault>
-        requires { IsPaired self.now }
+        requires { RewritesDown self.now }
         ensures { Answers (triples_fault self.now) result }
     {
         let n = self.n() as u8;
@@ -87,7 +87,7 @@ impl Presentation {
 
     // Tests the triples of x_i with later variables.
     fn test_plane(&self, alloc: Global, i: u8) -> Result<(), AlgebraFault>
-        requires paired { IsPaired self.now }
+        requires downward { RewritesDown self.now }
         requires first { 1 ≤ i }
         requires last { i ≤ self.now.order.vars }
         ensures { Answers (plane_fault self.now i) result }
@@ -101,7 +101,7 @@ impl Presentation {
 
     // Tests the triples of x_i and x_j with later variables.
     fn test_line(&self, alloc: Global, i: u8, j: u8) -> Result<(), AlgebraFault>
-        requires paired { IsPaired self.now }
+        requires downward { RewritesDown self.now }
         requires first { 1 ≤ i }
         requires pair { i < j }
         requires last { j ≤ self.now.order.vars }
@@ -116,7 +116,7 @@ impl Presentation {
 
     // Tests the condition on a triple.
     fn test_triple(&self, alloc: Global, i: u8, j: u8, k: u8) -> Result<(), AlgebraFault>
-        requires paired { IsPaired self.now }
+        requires downward { RewritesDown self.now }
         requires first { 1 ≤ i }
         requires second { i < j }
         requires third { j < k }
@@ -133,7 +133,7 @@ impl Presentation {
 
     // The difference of the two rewritings of x_k x_j x_i.
     fn triple_rest(&self, alloc: Global, i: u8, j: u8, k: u8) -> Result<GPoly, AllocError>
-        requires paired { IsPaired self.now }
+        requires downward { RewritesDown self.now }
         requires first { 1 ≤ i }
         requires second { i < j }
         requires third { j < k }

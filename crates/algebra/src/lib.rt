@@ -5,7 +5,7 @@ ghost use Rattle.std.specs.Prelude.{◌≡◌, ℕ, ◌+◌, ◌-◌, ◌*◌, �
 ghost use Rattle.monomials.specs.Polynomials.{Each, IsPolynomial};
 ghost use Rattle.prime_field.specs.Modular.{IsPrime};
 ghost use Rattle.word_model.specs.Words.{c_of, d_of};
-ghost use Rattle.word_model.specs.Conditions.{relations_fault, IsAlgebraData, IsAccepted};
+ghost use Rattle.word_model.specs.Conditions.{relations_fault, IsAlgebraData, IsGAlgebra};
 ghost use Rattle.algebra.specs.Faults.{Reports};
 
 use gpoly::GPoly;
@@ -158,7 +158,7 @@ impl Algebra {
         ensures value { result ≡ self.now.order.vars }
         ensures not_empty { 1 ≤ result }
         ensures at_most { result ≤ 16 }
-        ensures accepted { IsAccepted self.now }
+        ensures accepted { IsGAlgebra self.now }
         ensures data { IsAlgebraData self.now }
         ensures prime { IsPrime self.now.p }
     {

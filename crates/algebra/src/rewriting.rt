@@ -5,7 +5,7 @@ ghost use Rattle.monomials.specs.Monomials.{degree};
 ghost use Rattle.monomials.specs.Orders.{order_cmp};
 ghost use Rattle.monomials.specs.Polynomials.{Each, HasNumbers, HasVars, IsPolynomial, from_terms};
 ghost use Rattle.gpoly.specs.Terms.{pairs_of};
-ghost use Rattle.word_model.specs.Words.{IsWord, IsPaired, leftmost_descent, word_value};
+ghost use Rattle.word_model.specs.Words.{IsWord, RewritesDown, leftmost_descent, word_value};
 ghost use Rattle.algebra.specs.Places.{descent_at};
 ghost use Rattle.algebra.specs.WordSums.{words_of, reduced, between, replacement, IsPending};
 
@@ -52,7 +52,7 @@ impl Presentation {
         alloc: Global,
         words: Vec<WordTerm>,
     ) -> Result<GPoly, AllocError>
-        requires paired { IsPaired self.now }
+        requires downward { RewritesDown self.now }
         requires pending { IsPending self.now.p self.now.order.vars (words_of words.items) }
         ensures value { IfOk result (λ r. r ≡ word_value self.now (words_of words.items)) }
         ensures sorted { IfOk result (λ r. IsPolynomial self.now.p self.now.order r) }
@@ -67,7 +67,7 @@ impl Presentation {
         alloc: Global,
         mut pending: Vec<WordTerm>,
     ) -> Result<Vec<Term>, AllocError>
-        requires paired { IsPaired self.now }
+        requires downward { RewritesDown self.now }
         requires pending { IsPending self.now.p self.now.order.vars (words_of pending.items) }
         ensures value { IfOk result (λ r. from_terms (order_cmp self.now.order.rows) self.now.p (pairs_of r.items)
             ≡ word_value self.now (words_of pending.items)) }

@@ -5,7 +5,7 @@ use Rattle.monomials.specs.Monomials.{Monomial, one, variable}
 use Rattle.monomials.proofs.Keys.{Each-append}
 use Rattle.monomials.proofs.Modulo.{Same, same_refl, same_add, same_mul}
 use Rattle.monomials.proofs.Weights.{weigh}
-use Rattle.word_model.specs.Words.{Algebra, Word, IsWord, monomial_of, word_from, sorted_word, leftmost_descent, behind_letter, c_of, d_of, IsPaired}
+use Rattle.word_model.specs.Words.{Algebra, Word, IsWord, monomial_of, word_from, sorted_word, leftmost_descent, behind_letter, c_of, d_of, RewritesDown}
 use Rattle.word_model.proofs.Descents.{descent, descent_here, descent_behind}
 use Rattle.word_model.proofs.Letters.{sorted_word-variable}
 use Rattle.word_model.proofs.Termination.{normal_form-sorted}
@@ -62,7 +62,7 @@ module _ (i j : ℕ) (ij : i < j) where
 
 -- ---- their weights
 
-module _ (A : Algebra) (paired : IsPaired A) (i j : ℕ) (low : 1 ≤ i) (ij : i < j) (high : j ≤ A.order.vars) (φ : Monomial → ℕ) where
+module _ (A : Algebra) (downward : RewritesDown A) (i j : ℕ) (low : 1 ≤ i) (ij : i < j) (high : j ≤ A.order.vars) (φ : Monomial → ℕ) where
   -- the weight of x^s y^t w
   abbrev pub weight : ℕ → ℕ → Word → ℕ
   weight s t w = word_weight A φ (behind i j ij s t w)
@@ -94,7 +94,7 @@ module _ (A : Algebra) (paired : IsPaired A) (i j : ℕ) (low : 1 ≤ i) (ij : i
       let all : IsWord A.order.vars (u ++ j ∷ i ∷ w) =
       Each-append _ u (j ∷ i ∷ w) (Each-append _ (replicate s i) (replicate t j) (power_is_word A.order.vars i x.0 x.1 s) (power_is_word A.order.vars j y.0 y.1 t)) (y, (x, word)) in
       same_refl A.p _ _ (ap (word_weight A φ) (sym (joined (j ∷ i ∷ w))))
-      ∙ by_descent A paired φ u j i w all (ap leftmost_descent (joined (j ∷ i ∷ w)) ∙ descent_xy i j ij s t w)
+      ∙ by_descent A downward φ u j i w all (ap leftmost_descent (joined (j ∷ i ∷ w)) ∙ descent_xy i j ij s t w)
       ∙ same_refl A.p _ _ (λ k. c_of A i j * word_weight A φ (joined (i ∷ j ∷ w) k) + weigh (λ m. word_weight A φ (joined (sorted_word m ++ w) k)) (d_of A i j))
 
   -- ---- where y x = q x y + δ

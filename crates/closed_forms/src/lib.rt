@@ -4,7 +4,7 @@
 ghost use Rattle.std.specs.Prelude.{◌≡◌, ◌≢◌, ℕ, ◌+◌, ◌<◌, ◌≤◌, ◌↔◌, ◌++◌, ◌∷◌, [], Some, IfOk, OnOk, length, replicate};
 ghost use Rattle.monomials.specs.Polynomials.{Each, HasNumbers, HasVars, cons_nonzero};
 ghost use Rattle.gpoly.specs.Terms.{pair_of};
-ghost use Rattle.word_model.specs.Words.{Algebra, IsPaired, normal_form};
+ghost use Rattle.word_model.specs.Words.{Algebra, RewritesDown, normal_form};
 ghost use Rattle.closed_forms.specs.declared.PairKind.{PairKind};
 ghost use Rattle.closed_forms.specs.Kinds.{IsProper, IsOfKind, HasKind};
 ghost use Rattle.closed_forms.specs.Forms.{pairs_of, IsNumber, IsFalling, closed_form, in_algebra};
@@ -131,7 +131,7 @@ pub fn power_product(
     requires proper { IsProper field kind.now }
     requires reach { a + b ≤ 4095 }
     ensures formula { IfOk result (λ r. pairs_of r.items ≡ closed_form field kind.now a b) }
-    ensures value { IfOk result (λ r. (A : Algebra) (i j : ℕ) → A.p ≡ field → IsPaired A →
+    ensures value { IfOk result (λ r. (A : Algebra) (i j : ℕ) → A.p ≡ field → RewritesDown A →
         HasKind A i j kind.now →
         normal_form A (replicate a j ++ replicate b i) ≡ in_algebra A i j (pairs_of r.items)) }
     ensures falling { IfOk result (λ r. IsFalling (pairs_of r.items)) }

@@ -5,7 +5,7 @@ use Rattle.monomials.specs.Orders.{order_cmp}
 use Rattle.monomials.specs.Leading.{leading_monomial}
 use Rattle.monomials.specs.Polynomials.{Polynomial, Each, IsPolynomial}
 use Rattle.word_model.specs.Words.{Algebra}
-use Rattle.word_model.specs.Conditions.{IsAccepted}
+use Rattle.word_model.specs.Conditions.{IsGAlgebra}
 use Rattle.word_model.specs.Reduction.{Reduced, reduce_tail}
 use Rattle.word_model.specs.Finished.{Final, is_kept, kept_from, kept, insert_final, with_final, finals_from, FinishedList, list_of, option_list, finished}
 use Rattle.word_model.specs.Machine.{IsElement}
@@ -13,7 +13,7 @@ use Rattle.cofactors.specs.Sound.{IsStep}
 use Rattle.cofactors.specs.Rows.{AreTails}
 use Rattle.cofactors.proofs.Traces.{reduce_tail-steps}
 
-module _ (A : Algebra) (ok : IsAccepted A) where
+module _ (A : Algebra) (ok : IsGAlgebra A) where
   -- an element of the list, over m elements of the basis
   record IsFinal (m : ℕ) (x : Final) : Type 0 where
     first : 1 ≤ x.origin

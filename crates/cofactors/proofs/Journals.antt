@@ -7,7 +7,7 @@ use Rattle.monomials.specs.Leading.{leading_monomial, leading_coefficient}
 use Rattle.monomials.proofs.Modulo.{Same}
 use Rattle.prime_field.specs.Modular.{inverse, inverse_from}
 use Rattle.word_model.specs.Words.{Algebra}
-use Rattle.word_model.specs.Conditions.{NonZero, IsField, IsAccepted}
+use Rattle.word_model.specs.Conditions.{NonZero, IsField, IsGAlgebra}
 use Rattle.word_model.specs.Products.{product, in_reach, variable_polynomial}
 use Rattle.word_model.specs.Reduction.{element, is_within, Reduced, reduce}
 use Rattle.word_model.specs.Jobs.{IsJob, start_of, s_polynomial, without, same_job, least_job, is_witness, chain_witness}
@@ -133,7 +133,7 @@ module _ (A : Algebra) (gens : List Polynomial) (mode : Mode) where
 
 -- ---- states
 
-module _ (A : Algebra) (ok : IsAccepted A) (gens : List Polynomial) (sorted : Each (IsPolynomial A.p A.order) gens) (mode : Mode) where
+module _ (A : Algebra) (ok : IsGAlgebra A) (gens : List Polynomial) (sorted : Each (IsPolynomial A.p A.order) gens) (mode : Mode) where
   -- what a run has done is sound, has made the basis, and leaves jobs of its mode
   record IsRun (s : State) : Type 0 where
     entries : AreSound A gens s.basis mode 0 s.entries

@@ -8,7 +8,7 @@ use Rattle.monomials.specs.Polynomials.{Polynomial, Each, IsCanonical, IsPolynom
 use Rattle.monomials.specs.Leading.{leading_monomial, leading_coefficient}
 use Rattle.monomials.proofs.Modulo.{Same}
 use Rattle.word_model.specs.Words.{Algebra}
-use Rattle.word_model.specs.Conditions.{NonZero, IsField, IsAccepted}
+use Rattle.word_model.specs.Conditions.{NonZero, IsField, IsGAlgebra}
 use Rattle.word_model.specs.Products.{degree_limit}
 use Rattle.word_model.specs.Reduction.{element, quotient, multiple, is_within, Target, leading_target, greatest_target, tail_target, step_by, Next, Ends, Undefined, Goes, next_step, after_step, steps_within, enough_steps, reduce, normal_form_by, reduce_tail}
 use Rattle.word_model.specs.declared.records.TraceStep.{TraceStep}
@@ -40,7 +40,7 @@ quotient-some p a b field some small nonzero = by (quotient p a b) (quotient-tim
 pub quotient-small : (p a b : ℕ) → 0 < p → quotient p a b < p
 quotient-small p a b some = mod-lt _ some
 
-module _ (A : Algebra) (ok : IsAccepted A) (G : List Polynomial) (elements : Each (IsPolynomial A.p A.order) G) where
+module _ (A : Algebra) (ok : IsGAlgebra A) (G : List Polynomial) (elements : Each (IsPolynomial A.p A.order) G) where
   module _ (target : Polynomial → Option Target) (targeting : IsTargeting A G target) where
     -- one step
     next_step-is : (h : Polynomial) (t : ℕ × Monomial) (i : ℕ) (s : TraceStep) (h' : Polynomial) → IsPolynomial A.p A.order h → target h ≡ Some (t, i)

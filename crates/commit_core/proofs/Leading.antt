@@ -7,7 +7,7 @@ use Rattle.monomials.specs.Monomials.{Monomial}
 use Rattle.monomials.specs.Orders.{RowOrder}
 use Rattle.monomials.specs.Leading.{leading_coefficient}
 use Rattle.word_model.specs.Words.{Algebra}
-use Rattle.word_model.specs.Conditions.{IsAccepted}
+use Rattle.word_model.specs.Conditions.{IsGAlgebra}
 use Rattle.word_model.specs.Reduction.{Reduced as Reduction, reduce}
 use Rattle.word_model.specs.Jobs.{same_job, is_queued, without, least_job, start_of, chain_witness}
 use Rattle.word_model.specs.Machine.{State, Turn, On, Over, step, turn_of_job, turn_of_start, turn_of_rest, with_entry, with_element, jobs_of, most_elements, seeds_from, first_state, IsElement, IsState}
@@ -210,7 +210,7 @@ pub at_itself : (A : Algebra) (gens : List Polynomial) (mode : Mode) (budget : �
 at_itself A gens mode budget o s = record { entries = refl; basis = refl; jobs = λ job. refl }
 
 -- after a commit that goes on the lead is one
-pub lead-on : (A : Algebra) (gens : List Polynomial) (mode : Mode) (budget : ℕ) (o : Option Outcome) (s t : State) (q new : JobQueue) → IsAccepted A → o ≡ None
+pub lead-on : (A : Algebra) (gens : List Polynomial) (mode : Mode) (budget : ℕ) (o : Option Outcome) (s t : State) (q new : JobQueue) → IsGAlgebra A → o ≡ None
     → IsKeptRun (run_at A gens mode budget o s) q → IsCommit (run_at A gens mode budget o s) (run_at A gens mode budget o t) (Ok Added)
     → new.order ≡ q.order → t.queue ≡ jobs_in new.items → Each (HasKey A gens t.basis) new.items → IsKeptRun (run_at A gens mode budget o t) new
 lead-on A gens mode budget o s t q new ok going lead commit order queue keys =
@@ -247,7 +247,7 @@ lead-ends A gens mode budget o s q outcome lead turn = record {
 }
 
 -- a lead at the first state
-pub lead-first : (A alg : Algebra) (gens given : List Polynomial) (mode : Mode) (budget : ℕ) (s : State) (q : JobQueue) → A ≡ alg → gens ≡ given → IsAccepted alg
+pub lead-first : (A alg : Algebra) (gens given : List Polynomial) (mode : Mode) (budget : ℕ) (s : State) (q : JobQueue) → A ≡ alg → gens ≡ given → IsGAlgebra alg
     → Each (IsPolynomial alg.p alg.order) given → length given ≤ 4096 → s.basis ≡ [] → SameJobs (seeds_from 1 given) s.queue
     → q.order ≡ alg.order → s.queue ≡ jobs_in q.items → Each (HasKey alg given []) q.items → IsKeptRun (run_at A gens mode budget None s) q
 lead-first A alg gens given mode budget s q made copied ok sorted few empty seeds order queue keys =

@@ -3,7 +3,7 @@ use Rattle.std.proofs.Common.{◌≡◌, ◌≢◌, ℕ, zero, suc, List, [], �
 use Rattle.monomials.specs.Monomials.{Monomial}
 use Rattle.monomials.specs.Polynomials.{Polynomial, Each, IsPolynomial}
 use Rattle.word_model.specs.Words.{Algebra}
-use Rattle.word_model.specs.Conditions.{IsAccepted}
+use Rattle.word_model.specs.Conditions.{IsGAlgebra}
 use Rattle.word_model.specs.Reduction.{element, Target, greatest_target, tail_target, step_by, less_step, Next, Ends, Undefined, Goes, next_step, after_step, steps_within, enough_steps, reduce_tail}
 use Rattle.word_model.specs.Machine.{IsElement}
 use Rattle.word_model.proofs.Targets.{IsBelow, IsPicked, greatest_target-falls}
@@ -11,7 +11,7 @@ use Rattle.word_model.proofs.Multiples.{step-cancels}
 use Rattle.word_model.proofs.Reductions.{next_step-goes, next_step-sorted, reduce_tail-sorted}
 use Rattle.word_model.specs.declared.records.TraceStep.{TraceStep}
 
-module _ (A : Algebra) (ok : IsAccepted A) (K : List Polynomial) (elements : Each (IsPolynomial A.p A.order) K) where
+module _ (A : Algebra) (ok : IsGAlgebra A) (K : List Polynomial) (elements : Each (IsPolynomial A.p A.order) K) where
   abbrev IsOf : Polynomial → Type 0
   IsOf f = IsPolynomial A.p A.order f
 

@@ -11,7 +11,7 @@ use Rattle.monomials.proofs.Operations.{IsPolynomial-from_terms}
 use Rattle.monomials.proofs.Keys.{Each-append, Each-first, Each-second, Each-weaker}
 use Rattle.monomials.proofs.OrderLaws.{order_cmp_tied}
 use Rattle.word_model.specs.Words.{Algebra, Word, WordSum, IsWord, sorted_word, normal_form, word_value}
-use Rattle.word_model.specs.Conditions.{IsAccepted}
+use Rattle.word_model.specs.Conditions.{IsGAlgebra}
 use Rattle.word_model.proofs.Letters.{Each-map, Each-both, length-word_from, monomial_of-sorted_word}
 use Rattle.word_model.proofs.Descents.{leftmost_descent-sorted_word}
 use Rattle.word_model.proofs.Divisions.{length-minus}
@@ -183,7 +183,7 @@ module _ (A : Algebra) (x : Crossing) (h : IsCrossing A.order.vars x) (tail : Li
   length-swapped k [] = refl
   length-swapped k (t ∷ f) = ap suc (length-swapped k f)
 
-  module _ (accepted : IsAccepted A) (some_a : 1 ≤ a) (some_b : 1 ≤ b) (fs : List Monomial) (vars : HaveVars A.order.vars fs)
+  module _ (accepted : IsGAlgebra A) (some_a : 1 ≤ a) (some_b : 1 ≤ b) (fs : List Monomial) (vars : HaveVars A.order.vars fs)
       (short : length (stacked_word fs) ≤ 4095) (is : stacked_word fs ≡ sorted_word x.left ++ (sorted_word x.right ++ stacked_word tail)) where
     whole_word : IsWord A.order.vars (front ++ (powers ++ back))
     whole_word = subst (IsWord A.order.vars) (before_swap fs is) (IsWord-stacked_word A.order.vars fs vars)
@@ -196,14 +196,14 @@ module _ (A : Algebra) (x : Crossing) (h : IsCrossing A.order.vars x) (tail : Li
     swap_weighs φ k =
         weigh-swapped (word_weight A φ) k (normal_form A powers)
         ∙ same_mul A.p k _ _
-        (sym (word_weight-inside A accepted.paired accepted.confluent accepted.field.more φ front powers back whole_word)
+        (sym (word_weight-inside A accepted.downward accepted.confluent accepted.field.more φ front powers back whole_word)
         ∙ same_refl A.p _ _ (ap (word_weight A φ) (sym (before_swap fs is))))
 
     -- the words that come of it are less
     lesser : Each (λ t. IsLess A 4095 (stacked_word fs) (stacked_word (between A.order.vars x a b tail t.1))) (normal_form A powers)
     lesser =
         Each-weaker _ _ (λ t less. subst₂ (IsLess A 4095) (sym (before_swap fs is)) (sym (after_swap t.1)) less) (normal_form A powers)
-        (part_less A accepted.paired 4095 front back powers (powers_fall a b x.high x.low some_a some_b h.falls) whole_word whole_short)
+        (part_less A accepted.downward 4095 front back powers (powers_fall a b x.high x.low some_a some_b h.falls) whole_word whole_short)
 
     -- what follows from that for each
     each_swapped : (P : ℕ × List Monomial → Type 0) (k : ℕ)
@@ -280,7 +280,7 @@ module _ (A : Algebra) where
   sorted_falls rest k fs =
       subst (λ f. sum_measure A 4095 (words_of rest) < sum_measure A 4095 f) (sym (words_of-append rest ((k, fs) ∷ []))) (taken_falls A 4095 (words_of rest) (k, stacked_word fs))
 
-  module _ (accepted : IsAccepted A) (start rest : ProductSum) (k : ℕ) (fs : List Monomial) (done : Polynomial) (h : IsMultiplying start (rest ++ (k, fs) ∷ []) done)
+  module _ (accepted : IsGAlgebra A) (start rest : ProductSum) (k : ℕ) (fs : List Monomial) (done : Polynomial) (h : IsMultiplying start (rest ++ (k, fs) ∷ []) done)
       (x : Crossing) (crossing : IsCrossing A.order.vars x) (tail : List Monomial) (tail_vars : HaveVars A.order.vars tail)
       (is : stacked_word fs ≡ sorted_word x.left ++ (sorted_word x.right ++ stacked_word tail)) (added : ProductSum) (swap : IsSwap A k x tail added) where
     vars : HaveVars A.order.vars fs

@@ -8,7 +8,7 @@ use Rattle.monomials.proofs.Weights.{weigh, weigh_alike_on, weigh-poly_scale}
 use Rattle.monomials.proofs.Operations.{IsPolynomial-poly_scale}
 use Rattle.monomials.proofs.Keys.{Each-append, Each-first, Each-weaker, EachKey-poly_scale}
 use Rattle.word_model.specs.Words.{Algebra, Word, IsWord, word_from, sorted_word, word_value}
-use Rattle.word_model.specs.Conditions.{IsAccepted}
+use Rattle.word_model.specs.Conditions.{IsGAlgebra}
 use Rattle.word_model.specs.Products.{product}
 use Rattle.word_model.proofs.Letters.{Each-map, IsWord-sorted_word, length-word_from}
 use Rattle.word_model.proofs.NormalForms.{word_weight, row_weight, weigh-word_value, weigh-product, word_value_is_polynomial, product_is_polynomial, same_weights}
@@ -105,7 +105,7 @@ pub record IsStage (A : Algebra) (k : ℕ) (m : Monomial) (f : Polynomial) (v : 
   pub within : degree (take v m) + poly_degree g ≤ 4095
   pub weights : (φ : Monomial → ℕ) → Same A.p (weigh (λ a. word_weight A φ (sorted_word (take v m) ++ sorted_word a)) g) (k * row_weight A φ f m)
 
-module _ (A : Algebra) (accepted : IsAccepted A) (k : ℕ) (m : Monomial) (f : Polynomial) (vars : length m ≡ A.order.vars) where
+module _ (A : Algebra) (accepted : IsGAlgebra A) (k : ℕ) (m : Monomial) (f : Polynomial) (vars : length m ≡ A.order.vars) where
   pub first_stage : IsPolynomial A.p A.order f → degree m + poly_degree f ≤ 4095 → IsStage A k m f A.order.vars (poly_scale A.p k f)
   first_stage sorted within =
       let all : take A.order.vars m ≡ m = take_all A.order.vars m (omega arith) in
@@ -157,7 +157,7 @@ module _ (A : Algebra) (accepted : IsAccepted A) (k : ℕ) (m : Monomial) (f : P
         let size : degree (power n v e) ≡ e =
         sym (length-word_from 1 (power n v e)) ∙ ap length (sorted_word-power n v e low) ∙ length-replicate {A = ℕ} e v in
         let degrees : poly_degree (product A P g) ≤ poly_degree P + poly_degree g =
-        poly_degree-product A accepted.paired P g (length-power n v e low high, tt) s.sorted.vars in
+        poly_degree-product A accepted.downward P g (length-power n v e low high, tt) s.sorted.vars in
         let made : IsStage A k m f (v - 1) (product A P g) = record {
           sorted = product_is_polynomial A accepted.field.more P g;
           within = omega (arith, stage_degree g s, degrees, size);
@@ -168,7 +168,7 @@ module _ (A : Algebra) (accepted : IsAccepted A) (k : ℕ) (m : Monomial) (f : P
               ∙ same_refl A.p _ _ once
               ∙ weigh_alike_on A.p _ (λ a. word_weight A φ (sorted_word (take v m) ++ sorted_word a)) g
               (Each-weaker _ _ (λ t bvars.
-              sym (last_part A accepted.paired accepted.confluent accepted.field.more φ front (sorted_word (power n v e) ++ sorted_word t.1) (is_word t.1 bvars))
+              sym (last_part A accepted.downward accepted.confluent accepted.field.more φ front (sorted_word (power n v e) ++ sorted_word t.1) (is_word t.1 bvars))
               ∙ same_refl A.p _ _ (ap (word_weight A φ) (word_around t.1))) g s.sorted.vars)
               ∙ s.weights φ);
         } in

@@ -4,7 +4,7 @@ use Rattle.monomials.specs.Monomials.{Monomial}
 use Rattle.monomials.specs.Orders.{order_cmp}
 use Rattle.monomials.specs.Polynomials.{Each}
 use Rattle.monomials.proofs.Keys.{Each-first, Each-second, Each-weaker, EachKey, EachKey-sum_over}
-use Rattle.word_model.specs.Words.{Algebra, Word, WordSum, IsWord, monomial_of, sorted_word, Descent, leftmost_descent, rewritten, d_of, normal_form, word_value, IsPaired}
+use Rattle.word_model.specs.Words.{Algebra, Word, WordSum, IsWord, monomial_of, sorted_word, Descent, leftmost_descent, rewritten, d_of, normal_form, word_value, RewritesDown}
 use Rattle.word_model.proofs.Letters.{Each-map, Each-both}
 use Rattle.word_model.proofs.Descents.{word_of, descent, found_descent, rising}
 use Rattle.word_model.proofs.Sorted.{sorted_word-monomial_of}
@@ -26,7 +26,7 @@ module _ (A : Algebra) where
   unfolding word_value
   EachKey-word_value Q f h = EachKey-sum_over (order_cmp A.order.rows) A.p Q (normal_form A) f h
 
-  module _ (paired : IsPaired A) (l : ℕ) (a b : Word) where
+  module _ (downward : RewritesDown A) (l : ℕ) (a b : Word) where
     -- a word between a and b
     abbrev around : Word → Word
     around s = a ++ (s ++ b)
@@ -74,8 +74,8 @@ module _ (A : Algebra) where
           subst₂ (IsLess A l) (sym (shifted (j ∷ i ∷ v))) (sym (shifted (i ∷ j ∷ v))) (less_swapped A l (a ++ u) j i (v ++ b) word' short' falls) in
           let lesser : Each (λ t. Falls (u ++ (sorted_word t.1 ++ v))) (d_of A i j) =
           Each-weaker _ _ (λ t less. subst₂ (IsLess A l) (sym (shifted (j ∷ i ∷ v))) (sym (shifted_replaced t.1)) less)
-          (d_of A i j) (less_replaced A paired l (a ++ u) j i (v ++ b) word' short' falls) in
-          subst (EachKey (λ m. Falls (sorted_word m))) (sym (normal_form-descent A paired (u ++ j ∷ i ∷ v) (descent u j i v) own e))
+          (d_of A i j) (less_replaced A downward l (a ++ u) j i (v ++ b) word' short' falls) in
+          subst (EachKey (λ m. Falls (sorted_word m))) (sym (normal_form-descent A downward (u ++ j ∷ i ∷ v) (descent u j i v) own e))
           (EachKey-word_value (λ m. Falls (sorted_word m)) (rewritten A (descent u j i v)) (
             less_by (u ++ i ∷ j ∷ v) swapped less,
             Each-map (λ t. EachKey (λ m. Falls (sorted_word m)) (normal_form A t.1)) (λ t. (t.0, u ++ (sorted_word t.1 ++ v))) (d_of A i j)
@@ -90,7 +90,7 @@ module _ (A : Algebra) where
 
     shrinks : (s : Word) → Shrinks s
     shrinks s word short =
-        word_induction A paired l Shrinks (λ s own len e. sorted_part s own e)
+        word_induction A downward l Shrinks (λ s own len e. sorted_part s own e)
         (λ u j i v own len falls e swapped replaced word short.
         Each-weaker _ _ (λ t less. (less.0, less.1, omega (arith, less.2))) (normal_form A (u ++ j ∷ i ∷ v))
         (by_descent u j i v falls own e swapped replaced word short))

@@ -8,7 +8,7 @@ use Rattle.monomials.specs.Polynomials.{Polynomial, Each, HasVars, IsCanonical, 
 use Rattle.monomials.specs.Leading.{leading_monomial, leading_coefficient}
 use Rattle.monomials.proofs.Exponents.{length-zip_with}
 use Rattle.word_model.specs.Words.{Algebra}
-use Rattle.word_model.specs.Conditions.{IsAccepted}
+use Rattle.word_model.specs.Conditions.{IsGAlgebra}
 use Rattle.word_model.specs.Reduction.{element, first_divisor, multiple}
 use Rattle.word_model.proofs.LeastNumbers.{Each-element, IsFirstDivisor, first_divisor-found}
 use Rattle.word_model.proofs.Reductions.{multiple-leading}
@@ -69,7 +69,7 @@ reaches n f g f_has g_has f_nonzero g_nonzero =
 
 -- ---- multiples
 
-module _ (A : Algebra) (ok : IsAccepted A) where
+module _ (A : Algebra) (ok : IsGAlgebra A) where
   -- a multiple is not zero
   pub multiple-nonzero : (m : Monomial) (g r : Polynomial) → length m ≡ A.order.vars → IsPolynomial A.p A.order g → g ≢ []
       → r ≡ multiple A 1 m g → r ≢ []

@@ -2,7 +2,7 @@
 use Rattle.std.proofs.Common.{◌≡◌, ℕ, suc, ◌<◌, ◌≤◌, List, Option, Some, None, refl, subst₂}
 use Rattle.monomials.specs.Polynomials.{Polynomial, Each, IsPolynomial, poly_degree}
 use Rattle.word_model.specs.Words.{Algebra}
-use Rattle.word_model.specs.Conditions.{IsAccepted}
+use Rattle.word_model.specs.Conditions.{IsGAlgebra}
 use Rattle.word_model.specs.Products.{degree_limit}
 use Rattle.word_model.specs.Reduction.{Target, Goes, next_step, after_step}
 use Rattle.word_model.specs.declared.records.TraceStep.{TraceStep}
@@ -17,7 +17,7 @@ abbrev pub steps_after : Algebra → ℕ → Option Target → ℕ
 steps_after A D None = 0
 steps_after A D (Some (t, i)) = suc (rank A.order.rows A.order.vars D t.1)
 
-module _ (A : Algebra) (ok : IsAccepted A) where
+module _ (A : Algebra) (ok : IsGAlgebra A) where
   same_steps : (D : ℕ) (target : Option Target) → steps_left A ok D target ≡ steps_after A D target
   same_steps D None = refl
   same_steps D (Some (t, i)) = refl

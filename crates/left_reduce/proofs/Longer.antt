@@ -4,7 +4,7 @@ use Rattle.monomials.specs.Monomials.{Monomial}
 use Rattle.monomials.specs.Orders.{order_cmp}
 use Rattle.monomials.specs.Polynomials.{Polynomial, Each, IsPolynomial, poly_sub, poly_degree}
 use Rattle.word_model.specs.Words.{Algebra}
-use Rattle.word_model.specs.Conditions.{IsAccepted}
+use Rattle.word_model.specs.Conditions.{IsGAlgebra}
 use Rattle.word_model.specs.Products.{degree_limit}
 use Rattle.word_model.specs.Reduction.{element, lead_divides, first_divisor, multiple, target_at, leading_target, step_by, Next, Ends, Undefined, Goes, next_step, Reduced, after_step, reduce, is_within}
 use Rattle.word_model.specs.declared.records.TraceStep.{TraceStep}
@@ -73,7 +73,7 @@ module _ (A : Algebra) (G H : List Polynomial) where
 
 -- ---- whole reductions
 
-module _ (A : Algebra) (ok : IsAccepted A) (G H : List Polynomial) (first : Each (IsPolynomial A.p A.order) G) (all : Each (IsPolynomial A.p A.order) (G ++ H)) where
+module _ (A : Algebra) (ok : IsGAlgebra A) (G H : List Polynomial) (first : Each (IsPolynomial A.p A.order) G) (all : Each (IsPolynomial A.p A.order) (G ++ H)) where
   -- first the reduction by G, and then that of what it leaves
   abbrev in_two : Reduced → Reduced
   in_two r = goes_on_with r (reduce A (G ++ H) r.rest)

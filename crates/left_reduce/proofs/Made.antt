@@ -5,14 +5,14 @@ use Rattle.monomials.specs.Orders.{order_cmp}
 use Rattle.monomials.specs.Polynomials.{Polynomial, IsPolynomial, poly_scale, poly_sub}
 use Rattle.monomials.specs.Leading.{leading_monomial, leading_coefficient}
 use Rattle.word_model.specs.Words.{Algebra}
-use Rattle.word_model.specs.Conditions.{IsAccepted}
+use Rattle.word_model.specs.Conditions.{IsGAlgebra}
 use Rattle.word_model.specs.Reduction.{element, quotient, multiple, is_within, step_by, less_step, Next, Ends, Undefined, Goes, next_step, Reduced, after_step}
 use Rattle.word_model.specs.Jobs.{s_polynomial}
 use Rattle.word_model.specs.declared.records.TraceStep.{TraceStep}
 use Rattle.word_model.proofs.Reductions.{multiple-scale}
 use Rattle.left_reduce.specs.Steps.{after_steps}
 
-module _ (A : Algebra) (ok : IsAccepted A) where
+module _ (A : Algebra) (ok : IsGAlgebra A) where
   -- c times 1 m g, subtracted from h
   pub less_multiple : (h g : Polynomial) (m : Monomial) (c c' : ℕ) (product : Polynomial) → length m ≡ A.order.vars → IsPolynomial A.p A.order g
       → c ≡ c' → product ≡ multiple A 1 m g

@@ -8,8 +8,8 @@ use Rattle.monomials.specs.Monomials.{Monomial, degree}
 use Rattle.monomials.specs.Polynomials.{Polynomial, Each, IsCanonical, IsPolynomial, poly_degree}
 use Rattle.monomials.proofs.Keys.{Each-weaker}
 use Rattle.monomials.proofs.OrderLaws.{order_cmp_total}
-use Rattle.word_model.specs.Words.{Algebra, pair_index, c_of, d_of, monomial_of, IsSmall, IsPaired}
-use Rattle.word_model.specs.Conditions.{Fault, is_below, pair_fault, triple_fault, triple_rest, rest_fault, relations_fault, IsField, IsRegular, IsAlgebraData, IsAccepted}
+use Rattle.word_model.specs.Words.{Algebra, pair_index, c_of, d_of, monomial_of, IsSmall, RewritesDown}
+use Rattle.word_model.specs.Conditions.{Fault, is_below, pair_fault, triple_fault, triple_rest, rest_fault, relations_fault, IsField, HasNonzeroNumbers, IsAlgebraData, IsGAlgebra}
 use Rattle.word_model.specs.Conditions.Fault.{Coefficient, Profile}
 use Rattle.word_model.proofs.Letters.{Each-both}
 use Rattle.word_model.proofs.Ranks.{less_is}
@@ -85,8 +85,8 @@ module _ (A : Algebra) where
       (HasDegrees-poly_degree f 2 low) (all_below i j f h.canonical below))
 
   -- rewriting leads downwards where no pair has a fault
-  pub IsPaired-passed : IsAlgebraData A → NoPairFault A → IsPaired A
-  IsPaired-passed data_of passed = record {
+  pub RewritesDown-passed : IsAlgebraData A → NoPairFault A → RewritesDown A
+  RewritesDown-passed data_of passed = record {
     small = λ i j a b c.
         (let h : PairHolds i j = pair_holds i j (passed i j a b c) in
         let t : nat_lt 2 (poly_degree (d_of A i j)) ≡ false = h.profile in
@@ -97,19 +97,19 @@ module _ (A : Algebra) where
     no_pair : (i j : ℕ) → 1 ≤ i → i < j → j ≤ A.order.vars → PairHolds i j
     no_pair i j a b c = pair_holds i j ((no_fault A fault).0 i j a b c)
 
-    regular : IsRegular A
-    regular = record {
+    nonzero_numbers : HasNonzeroNumbers A
+    nonzero_numbers = record {
       nonzero = λ i j a b c.
           (let t : (c_of A i j == 0) ≡ false = (no_pair i j a b c).coefficient in
           NonZero-below A.p (c_of A i j) (grind (arith, nat_tests, t)) (c_of-below A data_of (omega (arith, field.more)) i j));
     }
 
     -- relations without a fault are accepted, over a field
-    pub accepted : IsAccepted A
+    pub accepted : IsGAlgebra A
     accepted = record {
       field = field;
-      paired = IsPaired-passed data_of (no_fault A fault).0;
-      regular = regular;
+      downward = RewritesDown-passed data_of (no_fault A fault).0;
+      nonzero = nonzero_numbers;
       confluent = record { none = λ i j k a b c d. triple_holds i j k ((no_fault A fault).1 i j k a b c d) };
     }
 

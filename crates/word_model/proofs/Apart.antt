@@ -5,14 +5,14 @@ use Rattle.monomials.specs.Polynomials.{Each}
 use Rattle.monomials.proofs.Modulo.{Same, same_refl, same_lin}
 use Rattle.monomials.proofs.Weights.{weigh, weigh_alike_on, weigh-exchange}
 use Rattle.monomials.proofs.Keys.{Each-weaker}
-use Rattle.word_model.specs.Words.{Algebra, Word, IsWord, sorted_word, leftmost_descent, c_of, d_of, IsPaired}
+use Rattle.word_model.specs.Words.{Algebra, Word, IsWord, sorted_word, leftmost_descent, c_of, d_of, RewritesDown}
 use Rattle.word_model.proofs.Descents.{descent}
 use Rattle.word_model.proofs.Termination.{IsLess, measure}
 use Rattle.word_model.proofs.NormalForms.{word_weight}
 use Rattle.word_model.proofs.Induction.{less_swapped, less_replaced}
 use Rattle.word_model.proofs.Rules.{rule_of, by_descent, rule_alike, AnyPair, any_at_less}
 
-module _ (A : Algebra) (paired : IsPaired A) (l k : ℕ) (any : AnyPair A l k) (φ : Monomial → ℕ) (a : Word) (h g : ℕ) (b : Word) (j i : ℕ) (v : Word) where
+module _ (A : Algebra) (downward : RewritesDown A) (l k : ℕ) (any : AnyPair A l k) (φ : Monomial → ℕ) (a : Word) (h g : ℕ) (b : Word) (j i : ℕ) (v : Word) where
   -- the weight where the letters j i are rewritten in words that begin with x
   abbrev second_rule : Word → ℕ
   second_rule x = rule_of A (word_weight A φ) x j i v
@@ -51,13 +51,13 @@ module _ (A : Algebra) (paired : IsPaired A) (l k : ℕ) (any : AnyPair A l k) (
     first_replaced : Each (λ t. IsLess A l whole ((a ++ (sorted_word t.1 ++ b)) ++ j ∷ i ∷ v)) (d_of A g h)
     first_replaced =
         Each-weaker _ _ (λ t less. subst₂ (IsLess A l) (sym (regroup (j ∷ i ∷ v))) (sym (regroup_replaced t.1 (j ∷ i ∷ v))) less)
-        (d_of A g h) (less_replaced A paired l a h g (b ++ j ∷ i ∷ v) word' short' gh)
+        (d_of A g h) (less_replaced A downward l a h g (b ++ j ∷ i ∷ v) word' short' gh)
 
     -- h g first, and then j i
     one_way : leftmost_descent (a ++ h ∷ g ∷ (b ++ j ∷ i ∷ v)) ≡ Some (descent a h g (b ++ j ∷ i ∷ v)) → Same A.p (word_weight A φ whole) (rule_of A second_rule a h g b)
     one_way e =
         same_refl A.p _ _ (ap (word_weight A φ) (regroup (j ∷ i ∷ v)))
-        ∙ by_descent A paired φ a h g (b ++ j ∷ i ∷ v) word' e
+        ∙ by_descent A downward φ a h g (b ++ j ∷ i ∷ v) word' e
         ∙ same_refl A.p _ _ (first_rule_is (j ∷ i ∷ v))
         ∙ rule_alike A (λ x. word_weight A φ (x ++ j ∷ i ∷ v)) second_rule a h g b
         (any_at_less A l k any whole below (a ++ g ∷ h ∷ b) j i v first_swapped ij φ)
@@ -75,7 +75,7 @@ module _ (A : Algebra) (paired : IsPaired A) (l k : ℕ) (any : AnyPair A l k) (
         same_lin A.p (c_of A i j) _ _ _ _
         (by_first (i ∷ j ∷ v) (less_swapped A l (a ++ h ∷ g ∷ b) j i v word short ij))
         (weigh_alike_on A.p (λ m. word_weight A φ ((a ++ h ∷ g ∷ b) ++ (sorted_word m ++ v))) (λ m. first_rule (sorted_word m ++ v)) (d_of A i j)
-        (Each-weaker _ _ (λ t less. by_first (sorted_word t.1 ++ v) less) (d_of A i j) (less_replaced A paired l (a ++ h ∷ g ∷ b) j i v word short ij)))
+        (Each-weaker _ _ (λ t less. by_first (sorted_word t.1 ++ v) less) (d_of A i j) (less_replaced A downward l (a ++ h ∷ g ∷ b) j i v word short ij)))
 
     -- where h g is the leftmost descent, j i may be rewritten first
     pub apart : leftmost_descent (a ++ h ∷ g ∷ (b ++ j ∷ i ∷ v)) ≡ Some (descent a h g (b ++ j ∷ i ∷ v)) → Same A.p (word_weight A φ whole) (second_rule (a ++ h ∷ g ∷ b))

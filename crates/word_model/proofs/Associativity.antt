@@ -9,7 +9,7 @@ use Rattle.monomials.proofs.Weights.{weigh, weigh_alike_on, weigh-swap}
 use Rattle.monomials.proofs.Canonical.{same_poly}
 use Rattle.monomials.proofs.OrderLaws.{order_cmp_total, order_cmp_tied}
 use Rattle.monomials.proofs.Keys.{Each-append, Each-first, Each-second, Each-weaker}
-use Rattle.word_model.specs.Words.{Algebra, Word, IsWord, counts_from, monomial_of, sorted_word, normal_form, IsPaired}
+use Rattle.word_model.specs.Words.{Algebra, Word, IsWord, counts_from, monomial_of, sorted_word, normal_form, RewritesDown}
 use Rattle.word_model.specs.Products.{product, variable_polynomial, times_letters, letters_product}
 use Rattle.word_model.specs.Conditions.{IsConfluent}
 use Rattle.word_model.proofs.Letters.{IsWord-sorted_word, monomial_of-sorted_word, sorted_word-variable}
@@ -35,7 +35,7 @@ normal_form-letter A v low high =
     ∙ monomial_of-sorted_word A.order.vars (variable A.order.vars v) (length-variable A.order.vars v low high) in
     normal_form-sorted A (v ∷ []) refl ∙ ap (λ m. (1, m) ∷ []) is
 
-module _ (A : Algebra) (paired : IsPaired A) (confluent : IsConfluent A) (above_one : 1 < A.p) where
+module _ (A : Algebra) (downward : RewritesDown A) (confluent : IsConfluent A) (above_one : 1 < A.p) where
   equal : (f g : Polynomial) → IsPolynomial A.p A.order f → IsPolynomial A.p A.order g
       → ((φ : Monomial → ℕ) → Same A.p (weigh φ f) (weigh φ g)) → f ≡ g
   equal f g hf hg e = same_poly (order_cmp A.order.rows) (order_cmp_total A.order.rows) (order_cmp_tied A.order.rows) A.p f g hf.canonical hg.canonical e
@@ -43,13 +43,13 @@ module _ (A : Algebra) (paired : IsPaired A) (confluent : IsConfluent A) (above_
   module _ (φ : Monomial → ℕ) where
     -- the first part of a word may be brought to its normal form first
     pub first_part : (s b : Word) → IsWord A.order.vars (s ++ b) → Same A.p (word_weight A φ (s ++ b)) (word_weight A (λ m. word_weight A φ (sorted_word m ++ b)) s)
-    first_part s b word = word_weight-inside A paired confluent above_one φ [] s b word
+    first_part s b word = word_weight-inside A downward confluent above_one φ [] s b word
 
     -- so may the last part
     pub last_part : (a s : Word) → IsWord A.order.vars (a ++ s) → Same A.p (word_weight A φ (a ++ s)) (word_weight A (λ m. word_weight A φ (a ++ sorted_word m)) s)
     last_part a s word =
         same_refl A.p _ _ (λ t. word_weight A φ (a ++ sym (append-nil s) t))
-        ∙ word_weight-inside A paired confluent above_one φ a s [] (subst (λ w. IsWord A.order.vars (a ++ w)) (sym (append-nil s)) word)
+        ∙ word_weight-inside A downward confluent above_one φ a s [] (subst (λ w. IsWord A.order.vars (a ++ w)) (sym (append-nil s)) word)
         ∙ same_refl A.p _ _ (λ t. word_weight A (λ m. word_weight A φ (a ++ append-nil (sorted_word m) t)) s)
 
   -- ---- associativity

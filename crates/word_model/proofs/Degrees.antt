@@ -4,7 +4,7 @@ use Rattle.monomials.specs.Monomials.{Monomial, degree}
 use Rattle.monomials.specs.Orders.{order_cmp}
 use Rattle.monomials.specs.Polynomials.{Polynomial, HasVars, poly_degree, sum_over}
 use Rattle.monomials.proofs.Keys.{Each-append, EachKey, EachKey-sum_over}
-use Rattle.word_model.specs.Words.{Algebra, Word, WordSum, IsWord, sorted_word, rewritten, d_of, normal_form, word_value, IsPaired}
+use Rattle.word_model.specs.Words.{Algebra, Word, WordSum, IsWord, sorted_word, rewritten, d_of, normal_form, word_value, RewritesDown}
 use Rattle.word_model.specs.Products.{product}
 use Rattle.word_model.proofs.Letters.{Each-map, Each-both, degree-monomial_of, length-word_from, IsWord-sorted_word}
 use Rattle.word_model.proofs.Descents.{descent}
@@ -25,7 +25,7 @@ pub poly_degree-le : (f : Polynomial) (b : ℕ) → HasDegrees b f → poly_degr
 poly_degree-le [] b h = omega arith
 poly_degree-le (t ∷ f) b h = omega (arith, h.0, poly_degree-le f b h.1)
 
-module _ (A : Algebra) (paired : IsPaired A) where
+module _ (A : Algebra) (downward : RewritesDown A) where
   HasDegrees-word_value : (b : ℕ) (f : WordSum) → EachKey (λ w. HasDegrees b (normal_form A w)) f → HasDegrees b (word_value A f)
   unfolding word_value
   HasDegrees-word_value b f h = EachKey-sum_over (order_cmp A.order.rows) A.p (λ m. degree m ≤ b) (normal_form A) f h
@@ -33,11 +33,11 @@ module _ (A : Algebra) (paired : IsPaired A) where
   -- no monomial of a normal form has a degree above the length of the word
   pub normal_form-degree : (l : ℕ) (w : Word) → IsWord A.order.vars w → length w ≤ l → HasDegrees l (normal_form A w)
   normal_form-degree l =
-      word_induction A paired l (λ w. HasDegrees l (normal_form A w))
+      word_induction A downward l (λ w. HasDegrees l (normal_form A w))
       (λ w word short e.
       subst (HasDegrees l) (sym (normal_form-sorted A w e)) (omega (arith, degree-monomial_of A.order.vars w word), tt))
       (λ u j i v word short falls e swapped replaced.
-      subst (HasDegrees l) (sym (normal_form-descent A paired (u ++ j ∷ i ∷ v) (descent u j i v) word e))
+      subst (HasDegrees l) (sym (normal_form-descent A downward (u ++ j ∷ i ∷ v) (descent u j i v) word e))
       (HasDegrees-word_value l (rewritten A (descent u j i v))
       (swapped, Each-map (λ t. HasDegrees l (normal_form A t.1)) (λ t. (t.0, u ++ (sorted_word t.1 ++ v))) (d_of A i j) replaced)))
 

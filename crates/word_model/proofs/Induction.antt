@@ -2,7 +2,7 @@
 use Rattle.std.proofs.Common.{◌≡◌, ℕ, zero, suc, ◌<◌, ◌≤◌, ◌∷◌, ◌++◌, length, Option, Some, None, refl, sym, subst, arith}
 use Rattle.monomials.specs.Polynomials.{Each}
 use Rattle.monomials.proofs.Keys.{Each-second, Each-weaker}
-use Rattle.word_model.specs.Words.{Algebra, Word, IsWord, sorted_word, Descent, leftmost_descent, d_of, IsPaired}
+use Rattle.word_model.specs.Words.{Algebra, Word, IsWord, sorted_word, Descent, leftmost_descent, d_of, RewritesDown}
 use Rattle.word_model.proofs.Descents.{word_of, descent, found_descent}
 use Rattle.word_model.proofs.Termination.{IsLess, measure, swapped_less, replaced_less}
 
@@ -17,13 +17,13 @@ pub less_swapped : (A : Algebra) (l : ℕ) (u : Word) (j i : ℕ) (v : Word) →
 less_swapped A l u j i v word short falls = swapped_less A l (descent u j i v) word falls short
 
 -- so it is with a term of their relation in their place
-pub less_replaced : (A : Algebra) → IsPaired A → (l : ℕ) (u : Word) (j i : ℕ) (v : Word) → IsWord A.order.vars (u ++ j ∷ i ∷ v) → length (u ++ j ∷ i ∷ v) ≤ l → i < j
+pub less_replaced : (A : Algebra) → RewritesDown A → (l : ℕ) (u : Word) (j i : ℕ) (v : Word) → IsWord A.order.vars (u ++ j ∷ i ∷ v) → length (u ++ j ∷ i ∷ v) ≤ l → i < j
     → Each (λ t. IsLess A l (u ++ j ∷ i ∷ v) (u ++ (sorted_word t.1 ++ v))) (d_of A i j)
-less_replaced A paired l u j i v word short falls =
+less_replaced A downward l u j i v word short falls =
     let bounds : (1 ≤ i) × (j ≤ A.order.vars) = pair_bounds A.order.vars u j i v word in
-    Each-weaker _ _ (λ t small. replaced_less A l (descent u j i v) word falls short t small) (d_of A i j) (paired.small i j bounds.0 falls bounds.1)
+    Each-weaker _ _ (λ t small. replaced_less A l (descent u j i v) word falls short t small) (d_of A i j) (downward.small i j bounds.0 falls bounds.1)
 
-module _ (A : Algebra) (paired : IsPaired A) (l : ℕ) (P : Word → Type 0)
+module _ (A : Algebra) (downward : RewritesDown A) (l : ℕ) (P : Word → Type 0)
     (sorted : (w : Word) → IsWord A.order.vars w → length w ≤ l → leftmost_descent w ≡ None → P w)
     (step : (u : Word) (j i : ℕ) (v : Word) → IsWord A.order.vars (u ++ j ∷ i ∷ v) → length (u ++ j ∷ i ∷ v) ≤ l → i < j
     → leftmost_descent (u ++ j ∷ i ∷ v) ≡ Some (descent u j i v)
@@ -36,7 +36,7 @@ module _ (A : Algebra) (paired : IsPaired A) (l : ℕ) (P : Word → Type 0)
   from_descent u j i v falls e word short lesser =
       step u j i v word short falls e
       (lesser (u ++ i ∷ j ∷ v) (less_swapped A l u j i v word short falls))
-      (Each-weaker _ _ (λ t less. lesser (u ++ (sorted_word t.1 ++ v)) less) (d_of A i j) (less_replaced A paired l u j i v word short falls))
+      (Each-weaker _ _ (λ t less. lesser (u ++ (sorted_word t.1 ++ v)) less) (d_of A i j) (less_replaced A downward l u j i v word short falls))
 
   from_less : (w : Word) → FromLess w
   from_less w = by (leftmost_descent w) refl

@@ -5,7 +5,7 @@ use Rattle.monomials.specs.Polynomials.{Each}
 use Rattle.monomials.proofs.Modulo.{Same, same_refl}
 use Rattle.monomials.proofs.Weights.{weigh}
 use Rattle.monomials.proofs.Keys.{Each-first, Each-second, Each-weaker}
-use Rattle.word_model.specs.Words.{Algebra, Word, IsWord, monomial_of, sorted_word, leftmost_descent, c_of, d_of, IsPaired}
+use Rattle.word_model.specs.Words.{Algebra, Word, IsWord, monomial_of, sorted_word, leftmost_descent, c_of, d_of, RewritesDown}
 use Rattle.word_model.proofs.Letters.{Each-both}
 use Rattle.word_model.proofs.Descents.{descent}
 use Rattle.word_model.proofs.Sorted.{sorted_word-monomial_of}
@@ -14,7 +14,7 @@ use Rattle.word_model.proofs.NormalForms.{word_weight}
 use Rattle.word_model.proofs.Induction.{less_swapped, less_replaced, word_induction}
 use Rattle.word_model.proofs.Rules.{rule_of, by_descent, rule_alike, AnyPair}
 
-module _ (A : Algebra) (paired : IsPaired A) (l k : ℕ) (any : AnyPair A l k) (φ : Monomial → ℕ) (a b : Word) where
+module _ (A : Algebra) (downward : RewritesDown A) (l k : ℕ) (any : AnyPair A l k) (φ : Monomial → ℕ) (a b : Word) where
   -- a word between a and b
   abbrev pub around : Word → Word
   around s = a ++ (s ++ b)
@@ -67,7 +67,7 @@ module _ (A : Algebra) (paired : IsPaired A) (l k : ℕ) (any : AnyPair A l k) (
       around_replaced : Each (λ t. IsLess A l (around (u ++ j ∷ i ∷ v)) (around (u ++ (sorted_word t.1 ++ v)))) (d_of A i j)
       around_replaced =
           Each-weaker _ _ (λ t less. subst₂ (IsLess A l) (sym (shifted (j ∷ i ∷ v))) (sym (shifted_replaced t.1)) less)
-          (d_of A i j) (less_replaced A paired l (a ++ u) j i (v ++ b) word' short' falls)
+          (d_of A i j) (less_replaced A downward l (a ++ u) j i (v ++ b) word' short' falls)
 
     -- where the part's leftmost descent is rewritten
     descent_part : IsWord A.order.vars (u ++ j ∷ i ∷ v) → leftmost_descent (u ++ j ∷ i ∷ v) ≡ Some (descent u j i v)
@@ -80,13 +80,13 @@ module _ (A : Algebra) (paired : IsPaired A) (l k : ℕ) (any : AnyPair A l k) (
         ∙ rule_alike A (λ s. word_weight A φ (around s)) (word_weight A weight_between) u j i v
         (swapped less.0 less.1 (omega (arith, less.2)))
         (Each-both _ _ _ (λ t first less. first less.0 less.1 (omega (arith, less.2))) (d_of A i j) replaced (around_replaced word short))
-        ∙ sym (by_descent A paired weight_between u j i v own e)
+        ∙ sym (by_descent A downward weight_between u j i v own e)
 
   -- a part of a word of measure below k may be brought to its normal form first
   pub inside : (s : Word) → IsWord A.order.vars (around s) → length (around s) ≤ l → measure A l (around s) < k
       → Same A.p (word_weight A φ (around s)) (word_weight A weight_between s)
   inside s word short =
-      word_induction A paired l MayBeFirst
+      word_induction A downward l MayBeFirst
       (λ s own len e. sorted_part s own e)
       (λ u j i v own len falls e swapped replaced. descent_part u j i v falls own e swapped replaced)
       s (part_is_word s word) (part_is_short s short) word short

@@ -10,10 +10,10 @@ use Rattle.monomials.proofs.OrderLaws.{order_cmp_total, order_cmp_tied, order_cm
 use Rattle.monomials.proofs.Canonical.{only_at, only_at-same, only_at-below, absent, ties_itself, turn, turn_back, lead_alone}
 use Rattle.monomials.proofs.Keys.{Each-append, Each-weaker}
 use Rattle.monomials.proofs.Operations.{above_each}
-use Rattle.word_model.specs.Words.{Algebra, Word, IsWord, monomial_of, sorted_word, leftmost_descent, c_of, d_of, IsSmall, IsPaired}
+use Rattle.word_model.specs.Words.{Algebra, Word, IsWord, monomial_of, sorted_word, leftmost_descent, c_of, d_of, IsSmall, RewritesDown}
 use Rattle.monomials.specs.Leading.{leading_monomial}
 use Rattle.word_model.specs.Products.{product}
-use Rattle.word_model.specs.Conditions.{NonZero, IsField, IsRegular}
+use Rattle.word_model.specs.Conditions.{NonZero, IsField, HasNonzeroNumbers}
 use Rattle.word_model.proofs.Letters.{Each-both, counts_from-append, counts_from-swap, monomial_of-sorted_word, IsWord-sorted_word}
 use Rattle.word_model.proofs.Descents.{descent}
 use Rattle.word_model.proofs.Termination.{plus-comm, order_cmp-inside, normal_form-sorted}
@@ -115,7 +115,7 @@ module _ (A : Algebra) where
       ∙ ap (λ x. order x (monomial_of A.order.vars (i ∷ j ∷ []))) (monomial_of-sorted_word A.order.vars t.1 small.0)
       ∙ small.2
 
-module _ (A : Algebra) (field : IsField A.p) (paired : IsPaired A) (regular : IsRegular A) where
+module _ (A : Algebra) (field : IsField A.p) (downward : RewritesDown A) (nonzero_numbers : HasNonzeroNumbers A) where
   sorted_leads : (w : Word) → leftmost_descent w ≡ None → WordLeads A w
   sorted_leads w e = (
     1,
@@ -130,21 +130,21 @@ module _ (A : Algebra) (field : IsField A.p) (paired : IsPaired A) (regular : Is
       let m : Monomial = monomial_of A.order.vars (u ++ j ∷ i ∷ v) in
       let same : monomial_of A.order.vars (u ++ i ∷ j ∷ v) ≡ m = counts_from-swap 1 A.order.vars u i j v in (
         c_of A i j * swapped.0,
-        NonZero-product A.p (c_of A i j) swapped.0 field (regular.nonzero i j bounds.0 falls bounds.1) swapped.1,
+        NonZero-product A.p (c_of A i j) swapped.0 field (nonzero_numbers.nonzero i j bounds.0 falls bounds.1) swapped.1,
         (λ φ van.
-            by_descent A paired φ u j i v word e
+            by_descent A downward φ u j i v word e
             ∙ same_lin A.p (c_of A i j) _ _ _ _
             (swapped.2 φ (λ x less. van x (ap (order A x) (sym same) ∙ less)))
             (weigh-vanishing A.p (λ x. word_weight A φ (u ++ (sorted_word x ++ v))) (d_of A i j)
             (Each-both _ _ _ (λ t leads small. lower_is_zero A _ m _ leads (replaced_below A u j i v t small) φ van)
-            (d_of A i j) replaced (paired.small i j bounds.0 falls bounds.1)))
+            (d_of A i j) replaced (downward.small i j bounds.0 falls bounds.1)))
             ∙ same_refl A.p _ (c_of A i j * swapped.0 * φ m) (omega (arith, ap (λ x. c_of A i j * (swapped.0 * φ x)) same))),
       )
 
   -- each normal form leads with its word's monomial
   pub word_leads : (w : Word) → IsWord A.order.vars w → WordLeads A w
   word_leads w word =
-      word_induction A paired (length w) (WordLeads A)
+      word_induction A downward (length w) (WordLeads A)
       (λ w word short e. sorted_leads w e)
       (λ u j i v word short falls e swapped replaced. descent_leads u j i v word falls e swapped replaced)
       w word (le_refl (length w))

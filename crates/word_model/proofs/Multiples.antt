@@ -13,7 +13,7 @@ use Rattle.monomials.proofs.Canonical.{only_at, turn, lead_alone}
 use Rattle.monomials.proofs.Keys.{Each-second, Each-weaker, EachKey, EachKey-poly_scale, EachKey-poly_add}
 use Rattle.monomials.proofs.Operations.{IsPolynomial-poly_add, IsPolynomial-poly_scale}
 use Rattle.word_model.specs.Words.{Algebra}
-use Rattle.word_model.specs.Conditions.{NonZero, IsAccepted}
+use Rattle.word_model.specs.Conditions.{NonZero, IsGAlgebra}
 use Rattle.word_model.specs.Products.{degree_limit}
 use Rattle.word_model.specs.Reduction.{element, quotient, multiple, is_within, step_by, less_step}
 use Rattle.word_model.specs.declared.records.TraceStep.{TraceStep}
@@ -63,7 +63,7 @@ module _ (A : Algebra) where
       ((Each-second (λ t. order A t.1 u.1 ≡ Less) f (t ∷ r) (rest_below A u (f ++ t ∷ r) h.3 h.2)).0, below_front f t r h.3)
 
   -- a monomial that is not above m
-  abbrev IsAtMost : Monomial → Monomial → Type 0
+  abbrev pub IsAtMost : Monomial → Monomial → Type 0
   IsAtMost m k = (order A k m ≡ Less) ⊎ (k ≡ m)
 
   -- what is at most m is below all that m is below
@@ -72,7 +72,7 @@ module _ (A : Algebra) where
   at_most_below m x k less (inr same) = ap (λ k. order A k x) same ∙ less
 
   -- a polynomial whose monomials are at most m, and that has no number at m, is below m
-  at_most_but_zero : (m : Monomial) (f : Polynomial) → IsInOrder f → EachKey (IsAtMost m) f → Same A.p (weigh (only_at (order A) m) f) 0 → IsBelow A m f
+  pub at_most_but_zero : (m : Monomial) (f : Polynomial) → IsInOrder f → EachKey (IsAtMost m) f → Same A.p (weigh (only_at (order A) m) f) 0 → IsBelow A m f
   at_most_but_zero m [] h keys zero = tt
   at_most_but_zero m (t ∷ f) h keys zero =
       let first : order A t.1 m ≡ Less = by keys.0 in
@@ -87,7 +87,7 @@ module _ (A : Algebra) where
           ∙ zero))
 
   -- the leading term of a polynomial other than zero: its number, and that all else is below it
-  leading_number : (f : Polynomial) → IsInOrder f → f ≢ [] → weigh (only_at (order A) (leading_monomial f)) f ≡ leading_coefficient f
+  pub leading_number : (f : Polynomial) → IsInOrder f → f ≢ [] → weigh (only_at (order A) (leading_monomial f)) f ≡ leading_coefficient f
   leading_number [] h nonzero = absurd (nonzero refl)
   leading_number (t ∷ f) h nonzero = lead_alone (order A) (order_cmp_total A.order.rows) (order_cmp_tied A.order.rows) A.p t f h
 
@@ -95,7 +95,7 @@ module _ (A : Algebra) where
   leading_coefficient-nonzero [] h nonzero = absurd (nonzero refl)
   leading_coefficient-nonzero (t ∷ f) h nonzero = NonZero-below A.p t.0 h.0 h.1
 
-  at_most_leading : (f : Polynomial) → IsInOrder f → EachKey (IsAtMost (leading_monomial f)) f
+  pub at_most_leading : (f : Polynomial) → IsInOrder f → EachKey (IsAtMost (leading_monomial f)) f
   at_most_leading [] h = tt
   at_most_leading (t ∷ f) h = (inr refl, Each-weaker _ _ (λ u less. inl less) f (rest_below A t f h.3 h.2))
 
@@ -105,7 +105,7 @@ module _ (A : Algebra) where
 
 -- ---- multiples
 
-module _ (A : Algebra) (ok : IsAccepted A) where
+module _ (A : Algebra) (ok : IsGAlgebra A) where
   positive : 0 < A.p
   positive = let more : 1 < A.p = ok.field.more in omega arith
 
@@ -126,7 +126,7 @@ module _ (A : Algebra) (ok : IsAccepted A) where
   pub multiple-leading : (m : Monomial) (g : Polynomial) → length m ≡ A.order.vars → IsPolynomial A.p A.order g → g ≢ []
       → (multiple A 1 m g ≢ []) × (leading_monomial (multiple A 1 m g) ≡ plus m (leading_monomial g))
   multiple-leading m g vars g_is nonzero =
-      leading_monomial-product A ok.field ok.paired ok.regular ((1, m) ∷ []) g (λ e. cc) nonzero
+      leading_monomial-product A ok.field ok.downward ok.nonzero ((1, m) ∷ []) g (λ e. cc) nonzero
       (record { canonical = (omega arith, ok.field.more, tt, tt); vars = (vars, tt) }) g_is
 
   -- ---- steps
@@ -144,7 +144,7 @@ module _ (A : Algebra) (ok : IsAccepted A) where
       → poly_degree (less_step A G h (record { coef = c; mono = m; index = i })) ≤ D
   less_step-degree D wide G h c m i vars g_vars within low =
       let product_low : poly_degree (multiple A c m (element G i)) ≤ D =
-      omega (arith, poly_degree-product A ok.paired ((c, m) ∷ []) (element G i) (vars, tt) g_vars, leb-true (degree m + poly_degree (element G i)) degree_limit within, wide) in
+      omega (arith, poly_degree-product A ok.downward ((c, m) ∷ []) (element G i) (vars, tt) g_vars, leb-true (degree m + poly_degree (element G i)) degree_limit within, wide) in
       poly_degree-le (less_step A G h (record { coef = c; mono = m; index = i })) D
       (EachKey-poly_add (order A) A.p (λ k. degree k ≤ D) h (poly_scale A.p (A.p - 1) (multiple A c m (element G i)))
       (HasDegrees-poly_degree h D low)

@@ -8,7 +8,7 @@ use Rattle.monomials.proofs.Weights.{weigh, weigh_alike, weigh_equal, weigh-map_
 use Rattle.monomials.proofs.Canonical.{same_poly}
 use Rattle.monomials.proofs.OrderLaws.{order_cmp_total, order_cmp_tied}
 use Rattle.monomials.proofs.Operations.{IsPolynomial-sum_over}
-use Rattle.word_model.specs.Words.{Algebra, Word, WordSum, IsWord, sorted_word, Descent, leftmost_descent, rewritten, rewriting_step, normal_form_within, normal_form, enough, word_value, IsPaired}
+use Rattle.word_model.specs.Words.{Algebra, Word, WordSum, IsWord, sorted_word, Descent, leftmost_descent, rewritten, rewriting_step, normal_form_within, normal_form, enough, word_value, RewritesDown}
 use Rattle.word_model.specs.Products.{product, variable_polynomial, with_letter}
 use Rattle.word_model.proofs.Letters.{length-counts_from, sorted_word-variable}
 use Rattle.word_model.proofs.Termination.{normal_form-descent}
@@ -70,9 +70,9 @@ module _ (A : Algebra) (φ : Monomial → ℕ) where
   weigh-word_value f = weigh-sum_over (order_cmp A.order.rows) (order_cmp_tied A.order.rows) A.p φ (normal_form A) f
 
   -- a word weighs as much as the words that it is rewritten to
-  pub word_weight-descent : IsPaired A → (w : Word) (s : Descent) → IsWord A.order.vars w → leftmost_descent w ≡ Some s
+  pub word_weight-descent : RewritesDown A → (w : Word) (s : Descent) → IsWord A.order.vars w → leftmost_descent w ≡ Some s
       → Same A.p (word_weight w) (weigh word_weight (rewritten A s))
-  word_weight-descent paired w s word e = same_refl A.p _ _ (ap (weigh φ) (normal_form-descent A paired w s word e)) ∙ weigh-word_value (rewritten A s)
+  word_weight-descent downward w s word e = same_refl A.p _ _ (ap (weigh φ) (normal_form-descent A downward w s word e)) ∙ weigh-word_value (rewritten A s)
 
   -- the weight of a monomial's products with the terms of g
   abbrev pub row_weight : Polynomial → Monomial → ℕ

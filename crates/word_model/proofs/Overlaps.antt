@@ -5,7 +5,7 @@ use Rattle.monomials.specs.Polynomials.{Polynomial, Each}
 use Rattle.monomials.proofs.Modulo.{Same, same_refl, same_add, same_lin, same_minus}
 use Rattle.monomials.proofs.Weights.{weigh, weigh-append, weigh-times, weigh_alike_on}
 use Rattle.monomials.proofs.Keys.{Each-append, Each-second, Each-weaker}
-use Rattle.word_model.specs.Words.{Algebra, Word, WordSum, IsWord, sorted_word, leftmost_descent, c_of, d_of, IsPaired}
+use Rattle.word_model.specs.Words.{Algebra, Word, WordSum, IsWord, sorted_word, leftmost_descent, c_of, d_of, RewritesDown}
 use Rattle.word_model.specs.Conditions.{times_words, overlap, IsConfluent}
 use Rattle.word_model.proofs.Letters.{Each-map}
 use Rattle.word_model.proofs.Descents.{descent}
@@ -53,15 +53,15 @@ module _ (A : Algebra) (l : ℕ) (a : Word) (c h g : ℕ) (v : Word) (word : IsW
   second_swapped =
       subst₂ (IsLess A l) (one_letter_more a c (h ∷ g ∷ v)) (one_letter_more a c (g ∷ h ∷ v)) (less_swapped A l (a ++ c ∷ []) h g v word' short' falls)
 
-  second_replaced : IsPaired A → Each (λ t. IsLess A l (a ++ c ∷ h ∷ g ∷ v) (a ++ c ∷ (sorted_word t.1 ++ v))) (d_of A g h)
-  second_replaced paired =
+  second_replaced : RewritesDown A → Each (λ t. IsLess A l (a ++ c ∷ h ∷ g ∷ v) (a ++ c ∷ (sorted_word t.1 ++ v))) (d_of A g h)
+  second_replaced downward =
       Each-weaker _ _ (λ t less. subst₂ (IsLess A l) (one_letter_more a c (h ∷ g ∷ v)) (one_letter_more a c (sorted_word t.1 ++ v)) less)
-      (d_of A g h) (less_replaced A paired l (a ++ c ∷ []) h g v word' short' falls)
+      (d_of A g h) (less_replaced A downward l (a ++ c ∷ []) h g v word' short' falls)
 
 less_than_less : (A : Algebra) (l : ℕ) (u v w : Word) → IsLess A l u v → IsLess A l v w → IsLess A l u w
 less_than_less A l u v w first second = (second.0, second.1, omega (arith, first.2, second.2))
 
-module _ (A : Algebra) (paired : IsPaired A) (confluent : IsConfluent A) (pos : 0 < A.p) (l k : ℕ) (any : AnyPair A l k) (φ : Monomial → ℕ)
+module _ (A : Algebra) (downward : RewritesDown A) (confluent : IsConfluent A) (pos : 0 < A.p) (l k : ℕ) (any : AnyPair A l k) (φ : Monomial → ℕ)
     (a : Word) (x j i : ℕ) (v : Word) (word : IsWord A.order.vars (a ++ x ∷ j ∷ i ∷ v)) (short : length (a ++ x ∷ j ∷ i ∷ v) ≤ l)
     (jx : j < x) (ij : i < j) (below : measure A l (a ++ x ∷ j ∷ i ∷ v) ≤ k) where
   -- ---- the words on the two ways down
@@ -88,22 +88,22 @@ module _ (A : Algebra) (paired : IsPaired A) (confluent : IsConfluent A) (pos : 
   onward w less of f h = Each-weaker _ _ (λ t next. less_than_less A l whole w (of t.1) less next) f h
 
   less_d_x : Each (λ t. IsLess A l whole (a ++ (sorted_word t.1 ++ x ∷ v))) (d_of A i j)
-  less_d_x = onward (a ++ j ∷ i ∷ x ∷ v) to_jix (λ m. a ++ (sorted_word m ++ x ∷ v)) (d_of A i j) (less_replaced A paired l a j i (x ∷ v) to_jix.0 to_jix.1 ij)
+  less_d_x = onward (a ++ j ∷ i ∷ x ∷ v) to_jix (λ m. a ++ (sorted_word m ++ x ∷ v)) (d_of A i j) (less_replaced A downward l a j i (x ∷ v) to_jix.0 to_jix.1 ij)
 
   less_x_d : Each (λ t. IsLess A l whole (a ++ x ∷ (sorted_word t.1 ++ v))) (d_of A i j)
-  less_x_d = second_replaced A l a x j i v word short ij paired
+  less_x_d = second_replaced A l a x j i v word short ij downward
 
   less_j_d : Each (λ t. IsLess A l whole (a ++ j ∷ (sorted_word t.1 ++ v))) (d_of A i x)
-  less_j_d = onward (a ++ j ∷ x ∷ i ∷ v) to_jxi (λ m. a ++ j ∷ (sorted_word m ++ v)) (d_of A i x) (second_replaced A l a j x i v to_jxi.0 to_jxi.1 ix paired)
+  less_j_d = onward (a ++ j ∷ x ∷ i ∷ v) to_jxi (λ m. a ++ j ∷ (sorted_word m ++ v)) (d_of A i x) (second_replaced A l a j x i v to_jxi.0 to_jxi.1 ix downward)
 
   less_d_j : Each (λ t. IsLess A l whole (a ++ (sorted_word t.1 ++ j ∷ v))) (d_of A i x)
-  less_d_j = onward (a ++ x ∷ i ∷ j ∷ v) to_xij (λ m. a ++ (sorted_word m ++ j ∷ v)) (d_of A i x) (less_replaced A paired l a x i (j ∷ v) to_xij.0 to_xij.1 ix)
+  less_d_j = onward (a ++ x ∷ i ∷ j ∷ v) to_xij (λ m. a ++ (sorted_word m ++ j ∷ v)) (d_of A i x) (less_replaced A downward l a x i (j ∷ v) to_xij.0 to_xij.1 ix)
 
   less_d_i : Each (λ t. IsLess A l whole (a ++ (sorted_word t.1 ++ i ∷ v))) (d_of A j x)
-  less_d_i = less_replaced A paired l a x j (i ∷ v) word short jx
+  less_d_i = less_replaced A downward l a x j (i ∷ v) word short jx
 
   less_i_d : Each (λ t. IsLess A l whole (a ++ i ∷ (sorted_word t.1 ++ v))) (d_of A j x)
-  less_i_d = onward (a ++ i ∷ x ∷ j ∷ v) to_ixj (λ m. a ++ i ∷ (sorted_word m ++ v)) (d_of A j x) (second_replaced A l a i x j v to_ixj.0 to_ixj.1 jx paired)
+  less_i_d = onward (a ++ i ∷ x ∷ j ∷ v) to_ixj (λ m. a ++ i ∷ (sorted_word m ++ v)) (d_of A j x) (second_replaced A l a i x j v to_ixj.0 to_ixj.1 jx downward)
 
   -- ---- what they weigh: the sorted word, and six sums over the terms of the relations
 
@@ -139,7 +139,7 @@ module _ (A : Algebra) (paired : IsPaired A) (confluent : IsConfluent A) (pos : 
   way_down : leftmost_descent whole ≡ Some (descent a x j (i ∷ v))
       → Same A.p (word_weight A φ whole) (c_of A j x * (c_of A i x * (c_of A i j * z + d_x) + j_d) + d_i)
   way_down e =
-      by_descent A paired φ a x j (i ∷ v) word e
+      by_descent A downward φ a x j (i ∷ v) word e
       ∙ same_lin A.p (c_of A j x) _ _ d_i d_i
       (at_second j x i v to_jxi ix ∙ same_lin A.p (c_of A i x) _ _ j_d j_d (any_at_less A l k any whole below a j i (x ∷ v) to_jix ij φ) refl)
       refl
@@ -157,10 +157,10 @@ module _ (A : Algebra) (paired : IsPaired A) (confluent : IsConfluent A) (pos : 
   ψ s = word_weight A φ (a ++ (s ++ v))
 
   abbrev χ : Monomial → ℕ
-  χ = weight_between A paired l k any φ a v
+  χ = weight_between A downward l k any φ a v
 
   ψ_is : (s : Word) → IsLess A l whole (a ++ (s ++ v)) → Same A.p (ψ s) (word_weight A χ s)
-  ψ_is s less = inside A paired l k any φ a v s less.0 less.1 (omega (arith, less.2))
+  ψ_is s less = inside A downward l k any φ a v s less.0 less.1 (omega (arith, less.2))
 
   last_letter : (c : ℕ) (m : Monomial) → a ++ ((sorted_word m ++ c ∷ []) ++ v) ≡ a ++ (sorted_word m ++ c ∷ v)
   last_letter c m = ap (λ w. a ++ w) (append_assoc (sorted_word m) (c ∷ []) v)

@@ -4,7 +4,7 @@ use Rattle.monomials.specs.Monomials.{Monomial, degree}
 use Rattle.monomials.specs.Polynomials.{Polynomial, Each, IsPolynomial, poly_degree}
 use Rattle.monomials.proofs.Keys.{Each-second}
 use Rattle.word_model.specs.Words.{Algebra}
-use Rattle.word_model.specs.Conditions.{IsAccepted}
+use Rattle.word_model.specs.Conditions.{IsGAlgebra}
 use Rattle.word_model.specs.Products.{degree_limit}
 use Rattle.word_model.specs.Reduction.{element, is_within, Target, leading_target, greatest_target, tail_target, step_by, less_step, Next, Ends, Undefined, Goes, next_step, Reduced, after_step, steps_within, enough_steps, reduce, normal_form_by, reduce_tail}
 use Rattle.word_model.proofs.LeadingMonomials.{order}
@@ -28,7 +28,7 @@ next_step-goes A G h t i s h' e = by (is_within (step_by A t i (element G i)).mo
     by true e = (refl, cc, cc)
     by false e = cc
 
-module _ (A : Algebra) (ok : IsAccepted A) where
+module _ (A : Algebra) (ok : IsGAlgebra A) where
   -- a polynomial of the algebra
   abbrev pub IsOf : Polynomial → Type 0
   IsOf f = IsPolynomial A.p A.order f

@@ -4,7 +4,7 @@ use Rattle.monomials.specs.Monomials.{Monomial}
 use Rattle.monomials.specs.Polynomials.{Each}
 use Rattle.monomials.proofs.Modulo.{Same, same_refl, same_lin}
 use Rattle.monomials.proofs.Weights.{weigh, weigh-map_key, weigh_alike_on}
-use Rattle.word_model.specs.Words.{Algebra, Word, IsWord, sorted_word, leftmost_descent, rewritten, c_of, d_of, IsPaired}
+use Rattle.word_model.specs.Words.{Algebra, Word, IsWord, sorted_word, leftmost_descent, rewritten, c_of, d_of, RewritesDown}
 use Rattle.word_model.proofs.Descents.{descent}
 use Rattle.word_model.proofs.Termination.{IsLess, measure}
 use Rattle.word_model.proofs.NormalForms.{word_weight, word_weight-descent}
@@ -20,11 +20,11 @@ module _ (A : Algebra) where
       ap (λ x. c_of A i j * ψ (u ++ i ∷ j ∷ v) + x) (weigh-map_key ψ (λ m. u ++ (sorted_word m ++ v)) (d_of A i j))
 
   -- at the leftmost descent of a word its normal form weighs what the rule says
-  pub by_descent : IsPaired A → (φ : Monomial → ℕ) (u : Word) (j i : ℕ) (v : Word) → IsWord A.order.vars (u ++ j ∷ i ∷ v)
+  pub by_descent : RewritesDown A → (φ : Monomial → ℕ) (u : Word) (j i : ℕ) (v : Word) → IsWord A.order.vars (u ++ j ∷ i ∷ v)
       → leftmost_descent (u ++ j ∷ i ∷ v) ≡ Some (descent u j i v)
       → Same A.p (word_weight A φ (u ++ j ∷ i ∷ v)) (rule_of A (word_weight A φ) u j i v)
-  by_descent paired φ u j i v word e =
-      word_weight-descent A φ paired (u ++ j ∷ i ∷ v) (descent u j i v) word e
+  by_descent downward φ u j i v word e =
+      word_weight-descent A φ downward (u ++ j ∷ i ∷ v) (descent u j i v) word e
       ∙ same_refl A.p _ _ (weigh-rewritten (word_weight A φ) u j i v)
 
   -- weights that are the same at the words of the rule

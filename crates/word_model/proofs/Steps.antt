@@ -11,7 +11,7 @@ use Rattle.monomials.proofs.Modulo.{Same}
 use Rattle.monomials.proofs.Operations.{IsPolynomial-poly_add, IsPolynomial-poly_scale}
 use Rattle.prime_field.specs.Modular.{inverse}
 use Rattle.word_model.specs.Words.{Algebra}
-use Rattle.word_model.specs.Conditions.{IsAccepted, NonZero}
+use Rattle.word_model.specs.Conditions.{IsGAlgebra, NonZero}
 use Rattle.word_model.specs.Products.{product, in_reach, variable_polynomial}
 use Rattle.word_model.specs.Reduction.{element, Reduced, reduce}
 use Rattle.word_model.specs.Jobs.{IsJob, NamesNonzero, start_of, s_polynomial, pair_within, without, same_job, least_job, key_cmp, chain_witness}
@@ -156,7 +156,7 @@ seeds_from-treated gens n s ((t ∷ f) ∷ H) at low =
 
 -- ---- states
 
-module _ (A : Algebra) (ok : IsAccepted A) (gens : List Polynomial) (sorted : Each (IsPolynomial A.p A.order) gens) where
+module _ (A : Algebra) (ok : IsGAlgebra A) (gens : List Polynomial) (sorted : Each (IsPolynomial A.p A.order) gens) where
   positive : 0 < A.p
   positive = let more : 1 < A.p = ok.field.more in omega arith
 
@@ -217,8 +217,8 @@ module _ (A : Algebra) (ok : IsAccepted A) (gens : List Polynomial) (sorted : Ea
   monic-is [] f_is nonzero = absurd (nonzero refl)
   monic-is (t ∷ f) f_is nonzero =
       let k : ℕ = inverse A.p t.0 in
-      let regular : NonZero A.p t.0 = leading_coefficient-nonzero A (t ∷ f) f_is.canonical nonzero in
-      let unit : Same A.p (t.0 * k) 1 = inverse-is A.p t.0 ok.field regular in
+      let nonzero_numbers : NonZero A.p t.0 = leading_coefficient-nonzero A (t ∷ f) f_is.canonical nonzero in
+      let unit : Same A.p (t.0 * k) 1 = inverse-is A.p t.0 ok.field nonzero_numbers in
       let more : 1 < A.p = ok.field.more in
       let one : (k * t.0) % A.p ≡ 1 = ap (λ x. x % A.p) (turn k t.0) ∙ unit ∙ mod-eq_of_lt more in
       (IsPolynomial-poly_scale A.p A.order positive k (t ∷ f) f_is, λ none. (let no : (1, t.1) ∷ poly_scale A.p k f ≡ [] = sym (ap (λ c. cons_nonzero c t.1 (poly_scale A.p k f)) one) ∙ none in cc))

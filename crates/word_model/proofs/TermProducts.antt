@@ -8,7 +8,7 @@ use Rattle.monomials.proofs.Weights.{weigh, weigh-append, weigh-sum, weigh-scale
 use Rattle.monomials.proofs.OrderLaws.{order_cmp_tied}
 use Rattle.monomials.proofs.Keys.{Each-append, Each-weaker, HasVars-poly_scale}
 use Rattle.monomials.proofs.Operations.{IsPolynomial-poly_add, IsPolynomial-poly_scale}
-use Rattle.word_model.specs.Words.{Algebra, Word, IsWord, sorted_word, IsPaired}
+use Rattle.word_model.specs.Words.{Algebra, Word, IsWord, sorted_word, RewritesDown}
 use Rattle.word_model.specs.Products.{product, variable_polynomial, times_letters, with_letter}
 use Rattle.word_model.specs.Conditions.{IsConfluent}
 use Rattle.word_model.proofs.Letters.{IsWord-sorted_word, monomial_of-sorted_word, sorted_word-variable, length-word_from}
@@ -32,10 +32,10 @@ pub degree-variable : (n v : ℕ) → 1 ≤ v → degree (variable n v) ≡ 1
 degree-variable n v h = sym (length-word_from 1 (variable n v)) ∙ ap length (sorted_word-variable n v h)
 
 -- the product with a variable has at most one degree more
-pub poly_degree-variable : (A : Algebra) → IsPaired A → (f : Polynomial) (v : ℕ) → HasVars A.order.vars f → 1 ≤ v → v ≤ A.order.vars
+pub poly_degree-variable : (A : Algebra) → RewritesDown A → (f : Polynomial) (v : ℕ) → HasVars A.order.vars f → 1 ≤ v → v ≤ A.order.vars
     → poly_degree (product A f (variable_polynomial A v)) ≤ poly_degree f + 1
-poly_degree-variable A paired f v vars low high =
-    omega (arith, poly_degree-product A paired f (variable_polynomial A v) vars (length-variable A.order.vars v low high, tt), degree-variable A.order.vars v low)
+poly_degree-variable A downward f v vars low high =
+    omega (arith, poly_degree-product A downward f (variable_polynomial A v) vars (length-variable A.order.vars v low high, tt), degree-variable A.order.vars v low)
 
 module _ (A : Algebra) (above_one : 1 < A.p) where
   -- the product with two lists of terms, one after the other
@@ -70,7 +70,7 @@ module _ (A : Algebra) (above_one : 1 < A.p) where
       ∙ weigh-word_value A φ (with_letter v f)
       ∙ same_refl A.p _ _ (weigh-map_key (word_weight A φ) (λ m. sorted_word m ++ v ∷ []) f)
 
-  module _ (paired : IsPaired A) (confluent : IsConfluent A) where
+  module _ (downward : RewritesDown A) (confluent : IsConfluent A) where
     -- the weight of a product with letters is that of the words with the letters behind them
     weigh-times_letters : (φ : Monomial → ℕ) (w : Word) (f : Polynomial) → HasVars A.order.vars f → IsWord A.order.vars w
         → Same A.p (weigh φ (times_letters A f w)) (weigh (λ a. word_weight A φ (sorted_word a ++ w)) f)
@@ -87,7 +87,7 @@ module _ (A : Algebra) (above_one : 1 < A.p) where
         moved m len =
             let same : (sorted_word m ++ v ∷ []) ++ w ≡ sorted_word m ++ v ∷ w = append_assoc (sorted_word m) (v ∷ []) w in
             let whole : IsWord A.order.vars (sorted_word m ++ v ∷ w) = Each-append _ (sorted_word m) (v ∷ w) (IsWord-sorted_word A.order.vars m len) word in
-            sym (first_part A paired confluent above_one φ (sorted_word m ++ v ∷ []) w (subst (IsWord A.order.vars) (sym same) whole))
+            sym (first_part A downward confluent above_one φ (sorted_word m ++ v ∷ []) w (subst (IsWord A.order.vars) (sym same) whole))
             ∙ same_refl A.p _ _ (ap (word_weight A φ) same)
 
     -- the product with a term is the multiple by its number, times the letters of its sorted word

@@ -8,7 +8,7 @@ use Rattle.monomials.specs.Orders.{order_cmp}
 use Rattle.monomials.specs.Polynomials.{Each, poly_add, poly_scale, sum_over}
 use Rattle.monomials.proofs.Keys.{Each-append, Each-first, Each-second, Each-weaker}
 use Rattle.monomials.proofs.OrderLaws.{order_cmp-plus}
-use Rattle.word_model.specs.Words.{Algebra, Word, IsWord, monomial_of, sorted_word, Descent, leftmost_descent, d_of, rewritten, rewriting_step, normal_form_within, normal_form, enough, word_value, IsSmall, IsPaired}
+use Rattle.word_model.specs.Words.{Algebra, Word, IsWord, monomial_of, sorted_word, Descent, leftmost_descent, d_of, rewritten, rewriting_step, normal_form_within, normal_form, enough, word_value, IsSmall, RewritesDown}
 use Rattle.word_model.proofs.Letters.{Each-map, counts_from-append, counts_from-swap, length-counts_from, counts_at_most, monomial_of-sorted_word, length-word_from, IsWord-sorted_word}
 use Rattle.word_model.proofs.Descents.{word_of, found_descent}
 use Rattle.word_model.proofs.Ranks.{IsIn-monomials_up_to, rank, rank_falls, rank_at_most}
@@ -146,14 +146,14 @@ module _ (A : Algebra) where
         measure_falls A l (s.before ++ (sorted_word t.1 ++ s.after)) (word_of s) len less,
       )
 
-  module _ (paired : IsPaired A) where
+  module _ (downward : RewritesDown A) where
     rewritten_from : (l : ℕ) (s : Descent) → IsWord A.order.vars (word_of s) → s.low < s.high → length (word_of s) ≤ l
         → Each (λ t. IsLess A l (word_of s) t.1) (rewritten A s)
     rewritten_from l s word falls short =
         let back : IsWord A.order.vars (s.high ∷ s.low ∷ s.after) = behind s word in (
           swapped_less l s word falls short,
           Each-map (λ t. IsLess A l (word_of s) t.1) (λ t. (t.0, s.before ++ (sorted_word t.1 ++ s.after))) (d_of A s.low s.high)
-              (Each-weaker _ _ (λ t small. replaced_less l s word falls short t small) (d_of A s.low s.high) (paired.small s.low s.high back.1.0.0 falls back.0.1)),
+              (Each-weaker _ _ (λ t small. replaced_less l s word falls short t small) (d_of A s.low s.high) (downward.small s.low s.high back.1.0.0 falls back.0.1)),
         )
 
     -- each word that a word is rewritten to is less
@@ -211,13 +211,13 @@ pub normal_form-sorted : (A : Algebra) (w : Word) → leftmost_descent w ≡ Non
 normal_form-sorted A w e = one_step A w None e
 
 -- the normal form of a word with a descent is that of the words that it is rewritten to
-pub normal_form-descent : (A : Algebra) → IsPaired A → (w : Word) (s : Descent) → IsWord A.order.vars w → leftmost_descent w ≡ Some s
+pub normal_form-descent : (A : Algebra) → RewritesDown A → (w : Word) (s : Descent) → IsWord A.order.vars w → leftmost_descent w ≡ Some s
     → normal_form A w ≡ word_value A (rewritten A s)
 unfolding normal_form word_value
-normal_form-descent A paired w s word e =
+normal_form-descent A downward w s word e =
     one_step A w (Some s) e
     ∙ sum_alike (order_cmp A.order.rows) A.p (normal_form_within A (fuel A.order.vars (length w))) (normal_form A) (rewritten A s)
-    (Each-weaker _ _ (λ t less. same t.1 less) (rewritten A s) (rewritten_less A paired (length w) w s e word (le_refl (length w))))
+    (Each-weaker _ _ (λ t less. same t.1 less) (rewritten A s) (rewritten_less A downward (length w) w s e word (le_refl (length w))))
   where
     same : (v : Word) → IsLess A (length w) w v → normal_form_within A (fuel A.order.vars (length w)) v ≡ normal_form A v
     same v less =
@@ -225,10 +225,10 @@ normal_form-descent A paired w s word e =
         (λ shorter.
         let here : measure A (length v) v < fuel A.order.vars (length w) =
         omega (arith, measure_below_enough A v, enough_grows A.order.vars (length v) (length w) shorter, enough_is A.order.vars (length w)) in
-        within_steady A paired (fuel A.order.vars (length w)) (enough A.order.vars (length v)) (length v) v less.0 (le_refl (length v)) here (measure_below_enough A v))
+        within_steady A downward (fuel A.order.vars (length w)) (enough A.order.vars (length v)) (length v) v less.0 (le_refl (length v)) here (measure_below_enough A v))
         (λ as_long.
         let here : measure A (length w) v < fuel A.order.vars (length w) = omega (arith, less.2, measure_below_enough A w, enough_is A.order.vars (length w)) in
         let there : measure A (length w) v < enough A.order.vars (length v) =
         subst (λ k. measure A (length w) v < enough A.order.vars k) as_long (omega (arith, less.2, measure_below_enough A w)) in
-        within_steady A paired (fuel A.order.vars (length w)) (enough A.order.vars (length v)) (length w) v less.0 less.1 here there)
+        within_steady A downward (fuel A.order.vars (length w)) (enough A.order.vars (length v)) (length w) v less.0 less.1 here there)
         (shorter_or_as_long (length v) (length w) less.1)

@@ -2,8 +2,8 @@
 use Rattle.std.proofs.Common.{◌≡◌, ◌≢◌, ℕ, zero, suc, ◌%◌, ◌<◌, false, [], ◌∷◌, ◌==◌, nat_lt, Option, None, Some, if◌then◌else◌, refl, sym, ap, ◌∙◌, subst, arith, mod-lt, mod-eq_of_lt}
 use Rattle.std.proofs.lemmas.Bool.Decides.{nat_tests}
 use Rattle.monomials.specs.Polynomials.{Polynomial, Each, IsPolynomial, cons_nonzero, poly_degree}
-use Rattle.word_model.specs.Words.{Algebra, d_of, IsSmall, IsPaired}
-use Rattle.word_model.specs.Conditions.{Fault, is_below, pair_fault, relations_fault, NonZero, IsField, IsAlgebraData, IsAccepted}
+use Rattle.word_model.specs.Words.{Algebra, d_of, IsSmall, RewritesDown}
+use Rattle.word_model.specs.Conditions.{Fault, is_below, pair_fault, relations_fault, NonZero, IsField, IsAlgebraData, IsGAlgebra}
 use Rattle.word_model.specs.Conditions.Fault.{Coefficient, Profile}
 use Rattle.word_model.specs.Scripts.{two_variables}
 use Rattle.word_model.proofs.Acceptance.{accepted}
@@ -23,8 +23,8 @@ module _ (p c e : ℕ) where
   constant_is_small (suc k) = ((refl, omega arith, refl), tt)
 
   -- rewriting leads downwards in it
-  pub IsPaired-two_variables : IsPaired weyl
-  IsPaired-two_variables = record {
+  pub RewritesDown-two_variables : RewritesDown weyl
+  RewritesDown-two_variables = record {
     small = λ i j low falls high.
         at_pair (λ i j. Each (IsSmall weyl i j) (d_of weyl i j)) (constant_is_small (e % p)) i j (omega arith) (omega arith);
   }
@@ -67,6 +67,6 @@ module _ (p c e : ℕ) where
       the_pair = ap (λ b. if b then Some (Coefficient 1 2) else later_fault (d_of weyl 1 2)) test ∙ constant_passes (e % p)
 
   -- it is accepted, over a field
-  pub IsAccepted-two_variables : IsField p → NonZero p c → IsAccepted weyl
-  IsAccepted-two_variables field nonzero =
+  pub IsGAlgebra-two_variables : IsField p → NonZero p c → IsGAlgebra weyl
+  IsGAlgebra-two_variables field nonzero =
       accepted weyl (IsAlgebraData-two_variables field.more) field (relations_fault-two_variables field.more nonzero)

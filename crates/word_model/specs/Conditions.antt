@@ -4,7 +4,7 @@ use Rattle.std.specs.Ordering.{is_lt}
 use Rattle.monomials.specs.Monomials.{Monomial}
 use Rattle.monomials.specs.Orders.{order_cmp}
 use Rattle.monomials.specs.Polynomials.{Polynomial, IsPolynomial, Each, poly_degree}
-use Rattle.word_model.specs.Words.{Algebra, Word, WordSum, c_of, d_of, monomial_of, sorted_word, word_value, IsPaired}
+use Rattle.word_model.specs.Words.{Algebra, Word, WordSum, c_of, d_of, monomial_of, sorted_word, word_value, RewritesDown}
 
 -- a condition that fails, with the numbers of its variables
 pub data Fault : Type 0 where
@@ -92,7 +92,7 @@ pub record IsField (p : ℕ) : Type 0 where
   pub unit : (a : ℕ) → NonZero p a → (b : ℕ) × ((b * a) % p ≡ 1 % p)
 
 -- the numbers of the relations are not zero
-pub record IsRegular (A : Algebra) : Type 0 where
+pub record HasNonzeroNumbers (A : Algebra) : Type 0 where
   pub nonzero : (i j : ℕ) → 1 ≤ i → i < j → j ≤ A.order.vars → NonZero A.p (c_of A i j)
 
 -- no triple has a rest
@@ -106,9 +106,10 @@ pub record IsAlgebraData (A : Algebra) : Type 0 where
   pub one_number_each : 2 * length A.c ≡ A.order.vars * (A.order.vars - 1)
   pub one_polynomial_each : length A.d ≡ length A.c
 
--- what the laws of an accepted algebra use
-pub record IsAccepted (A : Algebra) : Type 0 where
+-- a G-algebra: over a field, rewriting leads downwards at each pair, no number of a relation is zero, and no triple
+-- has a rest (relations without a fault are one, and have degree at most 2 besides)
+pub record IsGAlgebra (A : Algebra) : Type 0 where
   pub field : IsField A.p
-  pub paired : IsPaired A
-  pub regular : IsRegular A
+  pub downward : RewritesDown A
+  pub nonzero : HasNonzeroNumbers A
   pub confluent : IsConfluent A

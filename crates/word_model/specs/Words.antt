@@ -125,5 +125,5 @@ IsSmall A i j t =
     × (order_cmp A.order.rows t.1 (monomial_of A.order.vars (i ∷ j ∷ [])) ≡ Less)
 
 -- rewriting leads downwards at each pair: what the recursion of normal forms needs
-pub record IsPaired (A : Algebra) : Type 0 where
+pub record RewritesDown (A : Algebra) : Type 0 where
   pub small : (i j : ℕ) → 1 ≤ i → i < j → j ≤ A.order.vars → Each (IsSmall A i j) (d_of A i j)

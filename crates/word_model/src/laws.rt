@@ -5,9 +5,9 @@ ghost use Rattle.prime_field.specs.Modular.{IsPrime};
 ghost use Rattle.monomials.specs.Monomials.{Monomial, degree, plus, variable};
 ghost use Rattle.monomials.specs.Orders.{order_cmp};
 ghost use Rattle.monomials.specs.Polynomials.{Polynomial, HasVars, IsPolynomial, poly_add, poly_degree, poly_scale};
-ghost use Rattle.word_model.specs.Words.{Algebra, Word, WordSum, IsWord, monomial_of, sorted_word, Descent, leftmost_descent, rewritten, normal_form, word_value, IsPaired};
+ghost use Rattle.word_model.specs.Words.{Algebra, Word, WordSum, IsWord, monomial_of, sorted_word, Descent, leftmost_descent, rewritten, normal_form, word_value, RewritesDown};
 ghost use Rattle.monomials.specs.Leading.{leading_monomial};
-ghost use Rattle.word_model.specs.Conditions.{Fault, pair_fault, triple_fault, first_from, relations_fault, NonZero, IsField, IsRegular, IsAlgebraData, IsAccepted};
+ghost use Rattle.word_model.specs.Conditions.{Fault, pair_fault, triple_fault, first_from, relations_fault, NonZero, IsField, HasNonzeroNumbers, IsAlgebraData, IsGAlgebra};
 ghost use Rattle.word_model.specs.Products.{product, letters_product, times_letters};
 ghost use Rattle.word_model.specs.Scripts.{two_variables};
 
@@ -27,10 +27,10 @@ pub fn sorted_word_form()
 pub fn rewriting()
     ensures sorted { (A : Algebra) (w : Word) → leftmost_descent w ≡ None →
         normal_form A w ≡ (1, monomial_of A.order.vars w) ∷ [] }
-    ensures rewritten { (A : Algebra) (w : Word) (s : Descent) → IsPaired A →
+    ensures rewritten { (A : Algebra) (w : Word) (s : Descent) → RewritesDown A →
         IsWord A.order.vars w → leftmost_descent w ≡ Some s →
         normal_form A w ≡ word_value A (rewritten A s) }
-    ensures two_variables { (p c e : ℕ) → IsPaired (two_variables p c e) }
+    ensures two_variables { (p c e : ℕ) → RewritesDown (two_variables p c e) }
 {}
 
 /// Normal forms of words and of sums of words, and products, are polynomials of the algebra.
@@ -54,17 +54,17 @@ pub fn distribute()
 
 /// The degree of a product is at most the sum of the degrees, where rewriting leads downwards.
 pub fn degree_bound()
-    ensures { (A : Algebra) (f g : Polynomial) → IsPaired A → HasVars A.order.vars f →
+    ensures { (A : Algebra) (f g : Polynomial) → RewritesDown A → HasVars A.order.vars f →
         HasVars A.order.vars g → poly_degree (product A f g) ≤ poly_degree f + poly_degree g }
 {}
 
 /// Products of nonzero polynomials are not zero, and leading monomials multiply: over a field,
 /// where rewriting leads downwards and no number of a relation is zero.
 pub fn leading_terms()
-    ensures nonzero { (A : Algebra) (f g : Polynomial) → IsField A.p → IsPaired A → IsRegular A →
+    ensures nonzero { (A : Algebra) (f g : Polynomial) → IsField A.p → RewritesDown A → HasNonzeroNumbers A →
         IsPolynomial A.p A.order f → IsPolynomial A.p A.order g → f ≢ [] → g ≢ [] →
         product A f g ≢ [] }
-    ensures leading { (A : Algebra) (f g : Polynomial) → IsField A.p → IsPaired A → IsRegular A →
+    ensures leading { (A : Algebra) (f g : Polynomial) → IsField A.p → RewritesDown A → HasNonzeroNumbers A →
         IsPolynomial A.p A.order f → IsPolynomial A.p A.order g → f ≢ [] → g ≢ [] →
         leading_monomial (product A f g) ≡ plus (leading_monomial f) (leading_monomial g) }
 {}
@@ -73,11 +73,11 @@ pub fn leading_terms()
 /// with a constant and a nonzero number are. The numbers modulo a prime are a field.
 pub fn acceptance()
     ensures accepted { (A : Algebra) → relations_fault A ≡ None → IsAlgebraData A → IsField A.p →
-        IsAccepted A }
+        IsGAlgebra A }
     ensures field { (p : ℕ) → IsPrime p → IsField p }
     ensures two_variables { (p c e : ℕ) → IsField p → NonZero p c →
         (relations_fault (two_variables p c e) ≡ None) × IsAlgebraData (two_variables p c e)
-        × IsAccepted (two_variables p c e) }
+        × IsGAlgebra (two_variables p c e) }
 {}
 
 /// The first test that fails gives the fault: all pairs are tested in lexicographic order, and then
@@ -105,7 +105,7 @@ pub fn first_fault()
 
 /// A word has the same normal form whichever two letters in descending order are rewritten first.
 pub fn any_pair_first()
-    ensures { (A : Algebra) (u : Word) (j i : ℕ) (v : Word) → IsAccepted A →
+    ensures { (A : Algebra) (u : Word) (j i : ℕ) (v : Word) → IsGAlgebra A →
         IsWord A.order.vars (u ++ j ∷ i ∷ v) → i < j →
         normal_form A (u ++ j ∷ i ∷ v)
         ≡ word_value A (rewritten A (record { before = u; high = j; low = i; after = v })) }
@@ -113,7 +113,7 @@ pub fn any_pair_first()
 
 /// The product of an accepted algebra is associative.
 pub fn associate()
-    ensures { (A : Algebra) (f g h : Polynomial) → IsAccepted A → HasVars A.order.vars f →
+    ensures { (A : Algebra) (f g h : Polynomial) → IsGAlgebra A → HasVars A.order.vars f →
         HasVars A.order.vars g → HasVars A.order.vars h →
         product A (product A f g) h ≡ product A f (product A g h) }
 {}
@@ -121,9 +121,9 @@ pub fn associate()
 /// In an accepted algebra normal forms multiply as words do: the letters of a word, multiplied from
 /// left to right, give its normal form.
 pub fn letters_multiply()
-    ensures letters { (A : Algebra) (w : Word) → IsAccepted A → IsWord A.order.vars w →
+    ensures letters { (A : Algebra) (w : Word) → IsGAlgebra A → IsWord A.order.vars w →
         letters_product A w ≡ normal_form A w }
-    ensures words { (A : Algebra) (u w : Word) → IsAccepted A → IsWord A.order.vars (u ++ w) →
+    ensures words { (A : Algebra) (u w : Word) → IsGAlgebra A → IsWord A.order.vars (u ++ w) →
         product A (normal_form A u) (normal_form A w) ≡ normal_form A (u ++ w) }
 {}
 
@@ -133,7 +133,7 @@ pub fn multiply_by_parts()
     ensures terms { (A : Algebra) (f g h : Polynomial) → 1 < A.p →
         product A f (g ++ h)
         ≡ poly_add (order_cmp A.order.rows) A.p (product A f g) (product A f h) }
-    ensures letters { (A : Algebra) (f : Polynomial) (k : ℕ) (m : Monomial) → IsAccepted A →
+    ensures letters { (A : Algebra) (f : Polynomial) (k : ℕ) (m : Monomial) → IsGAlgebra A →
         IsPolynomial A.p A.order f → length m ≡ A.order.vars →
         product A f ((k, m) ∷ []) ≡ times_letters A (poly_scale A.p k f) (sorted_word m) }
 {}

@@ -3,23 +3,23 @@
 ghost use Rattle.std.specs.Prelude.{◌≡◌, ◌≤◌, ℕ, List, length};
 ghost use Rattle.monomials.specs.Polynomials.{Polynomial, Each, IsPolynomial};
 ghost use Rattle.word_model.specs.Words.{Algebra};
-ghost use Rattle.word_model.specs.Conditions.{IsAccepted};
+ghost use Rattle.word_model.specs.Conditions.{IsGAlgebra};
 ghost use Rattle.word_model.specs.Reduction.{leading_target, greatest_target, tail_target, next_step, after_step, reduce, normal_form_by, reduce_tail};
 ghost use Rattle.word_model.specs.Machine.{machine, most_elements, IsElement};
 ghost use Rattle.word_model.specs.declared.records.Mode.{Mode};
 
 /// Reductions as recursions: a reduction is its first step and the reduction of what that leaves.
 pub fn reductions()
-    ensures reduction { (A : Algebra) (G : List Polynomial) (h : Polynomial) → IsAccepted A →
+    ensures reduction { (A : Algebra) (G : List Polynomial) (h : Polynomial) → IsGAlgebra A →
         Each (IsPolynomial A.p A.order) G → IsPolynomial A.p A.order h →
         reduce A G h ≡ after_step (reduce A G) h (next_step A G h (leading_target G h)) }
-    ensures normal_form { (A : Algebra) (G : List Polynomial) (h : Polynomial) → IsAccepted A →
+    ensures normal_form { (A : Algebra) (G : List Polynomial) (h : Polynomial) → IsGAlgebra A →
         Each (IsPolynomial A.p A.order) G → IsPolynomial A.p A.order h →
         normal_form_by A G h ≡ after_step (normal_form_by A G) h (next_step A G h (greatest_target G h)) }
-    ensures tail { (A : Algebra) (G : List Polynomial) (h : Polynomial) → IsAccepted A →
+    ensures tail { (A : Algebra) (G : List Polynomial) (h : Polynomial) → IsGAlgebra A →
         Each (IsPolynomial A.p A.order) G → IsPolynomial A.p A.order h →
         reduce_tail A G h ≡ after_step (reduce_tail A G) h (next_step A G h (tail_target G h)) }
-    ensures rest { (A : Algebra) (G : List Polynomial) (h : Polynomial) → IsAccepted A →
+    ensures rest { (A : Algebra) (G : List Polynomial) (h : Polynomial) → IsGAlgebra A →
         Each (IsPolynomial A.p A.order) G → IsPolynomial A.p A.order h →
         IsPolynomial A.p A.order (reduce A G h).rest
         × IsPolynomial A.p A.order (normal_form_by A G h).rest
@@ -28,8 +28,8 @@ pub fn reductions()
 
 /// The basis of a run has nonzero polynomials of the algebra alone, at most 2048 of them.
 pub fn runs()
-    ensures elements { (A : Algebra) (gens : List Polynomial) (mode : Mode) (budget : ℕ) → IsAccepted A →
+    ensures elements { (A : Algebra) (gens : List Polynomial) (mode : Mode) (budget : ℕ) → IsGAlgebra A →
         Each (IsPolynomial A.p A.order) gens → Each (IsElement A) (machine A gens mode budget).basis }
-    ensures few { (A : Algebra) (gens : List Polynomial) (mode : Mode) (budget : ℕ) → IsAccepted A →
+    ensures few { (A : Algebra) (gens : List Polynomial) (mode : Mode) (budget : ℕ) → IsGAlgebra A →
         Each (IsPolynomial A.p A.order) gens → length (machine A gens mode budget).basis ≤ most_elements }
 {}

@@ -11,8 +11,8 @@ pub returns-clause-value : goal.returns-clause-value
 returns-clause-value c =
     let prime : IsPrime c.args.field = c.p-p.ensures.prime in
     IfOk-weaker c.closed_form.result _ _
-    (λ r formula A i j field paired has.
-    normal_form-powers A i j c.args.kind.now c.args.a c.args.b (subst (λ p. 1 < p) (sym field) prime.above_one) paired has
+    (λ r formula A i j field downward has.
+    normal_form-powers A i j c.args.kind.now c.args.a c.args.b (subst (λ p. 1 < p) (sym field) prime.above_one) downward has
     ∙ ap (in_algebra A i j) (ap (λ p. closed_form p c.args.kind.now c.args.a c.args.b) field ∙ sym formula))
     c.closed_form.ensures
 

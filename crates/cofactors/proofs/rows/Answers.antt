@@ -3,7 +3,7 @@ use Rattle.std.proofs.lemmas.Result.{err_from_is_err_and}
 use Rattle.monomials.specs.Polynomials.{Each, IsPolynomial}
 use Rattle.monomials.proofs.Keys.{Each-weaker}
 use Rattle.word_model.specs.Words.{Algebra}
-use Rattle.word_model.specs.Conditions.{IsAccepted}
+use Rattle.word_model.specs.Conditions.{IsGAlgebra}
 use Rattle.word_model.specs.Machine.{IsElement, Journal}
 use Rattle.word_model.specs.Cofactors.{Row, rows_after, finished_rows, entries_reach, values_reach}
 use Rattle.word_model.specs.declared.records.Mode.TheVariants.{Left}
@@ -18,8 +18,8 @@ use Rattle.cofactors.proofs.rows.Given as given
 use Rattle.cofactors.proofs.rows.Goals.{After-deref-2, After-deref-3, After-deref-4}
 
 -- the algebra is accepted
-accepted : (g : given.Over) (c : After-deref-2 g) → IsAccepted c.args.seat.now.algebra
-accepted g c = subst IsAccepted c.algebra.ensures c.n-n.ensures.accepted
+accepted : (g : given.Over) (c : After-deref-2 g) → IsGAlgebra c.args.seat.now.algebra
+accepted g c = subst IsGAlgebra c.algebra.ensures c.n-n.ensures.accepted
 
 -- the basis and the entries that are handed on are those of the journal
 basis_is : (g : given.Over) (c : After-deref-2 g) → c.deref.result.now ≡ c.args.journal.now.basis

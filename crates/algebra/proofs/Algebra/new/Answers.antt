@@ -1,9 +1,9 @@
 use Rattle.std.proofs.Common.{◌≡◌, ◌*◌, ◌-◌, ◌∙◌, None, sym, ap, subst}
 use Rattle.std.proofs.lemmas.Result.{err_from_is_err_and}
-use Rattle.word_model.specs.Words.{Algebra, IsPaired}
+use Rattle.word_model.specs.Words.{Algebra, RewritesDown}
 use Rattle.word_model.specs.Conditions.{relations_fault, IsAlgebraData}
 use Rattle.word_model.proofs.Faults.{pairs_passed}
-use Rattle.word_model.proofs.Acceptance.{IsPaired-passed}
+use Rattle.word_model.proofs.Acceptance.{RewritesDown-passed}
 use Rattle.algebra.specs.Faults.{Reports}
 use Rattle.algebra.proofs.Testing.{Reports-pairs, Reports-triples, relations_passed}
 use Rattle.algebra.proofs.Algebra.new.Goals as goal
@@ -23,7 +23,7 @@ test_triples-requires c =
       one_number_each = c.requires.one_number_each ∙ sym (ap (λ n. n * (n - 1)) c.requires.vars);
       one_polynomial_each = c.requires.one_polynomial_each;
     } in
-    IsPaired-passed c.of-presentation.result (subst IsAlgebraData (sym c.of-presentation.ensures) kept)
+    RewritesDown-passed c.of-presentation.result (subst IsAlgebraData (sym c.of-presentation.ensures) kept)
     (pairs_passed c.of-presentation.result c.in_ok-test_pairs.ensures)
 
 pub returns-in_err-test_triples-clause-fault : goal.returns-in_err-test_triples-clause-fault

@@ -61,7 +61,7 @@ loop-letter-preserved c =
     record {
       sorted = c.in_ok-product-2.ensures.sorted;
       within =
-          degree_more a c.n-n.ensures.accepted.paired c.loop-letter.product c.in_ok-product-2.product w i c.loop-letter-test.true
+          degree_more a c.n-n.ensures.accepted.downward c.loop-letter.product c.in_ok-product-2.product w i c.loop-letter-test.true
           c.loop-letter.invariant.sorted.vars h.0 h.1 c.in_ok-product-2.ensures.value c.loop-letter.invariant.within;
       value = letters_more a c.loop-letter.product c.in_ok-product-2.product w i c.loop-letter-test.true c.in_ok-product-2.ensures.value ∙ c.loop-letter.invariant.value;
     }
@@ -75,4 +75,4 @@ returns-clause-value c =
     let none : drop c.loop-letter.letter-index w ≡ [] = drop_all c.loop-letter.letter-index w c.loop-letter-test.false in
     sym (ap (times_letters a c.loop-letter.product) none)
     ∙ c.loop-letter.invariant.value
-    ∙ sym (product-term a c.n-n.ensures.prime.above_one accepted.paired accepted.confluent c.args.f.now t.coef t.mono c.requires.sorted c.requires.vars)
+    ∙ sym (product-term a c.n-n.ensures.prime.above_one accepted.downward accepted.confluent c.args.f.now t.coef t.mono c.requires.sorted c.requires.vars)

@@ -7,6 +7,6 @@ returns c =
     let a = c.args.alg.now in
     let accepted = c.n-n.ensures.accepted in
     record {
-      word = normal_form-pair a accepted.paired accepted.confluent accepted.field.more;
+      word = normal_form-pair a accepted.downward accepted.confluent accepted.field.more;
       sum = word_value-pair a accepted;
     }

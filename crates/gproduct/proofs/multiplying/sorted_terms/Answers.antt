@@ -3,7 +3,7 @@ use Rattle.std.proofs.lemmas.List.{map-append}
 use Rattle.monomials.specs.Monomials.{Monomial}
 use Rattle.gpoly.specs.Terms.{pair_of, pairs_of}
 use Rattle.word_model.specs.Words.{Algebra, sorted_word}
-use Rattle.word_model.specs.Conditions.{IsAccepted}
+use Rattle.word_model.specs.Conditions.{IsGAlgebra}
 use Rattle.gproduct.specs.declared.front.Crossing.{Crossing}
 use Rattle.gproduct.specs.Factors.{HaveVars, ProductSum, IsCrossing, IsSwap, products_in, stacked_word, words_of}
 use Rattle.gproduct.proofs.Stacks.{degrees-le}
@@ -70,7 +70,7 @@ push_swapped-requires-clause-reach c =
     (before (goal.at.push_swapped-requires-clause-reach c).In-Some).ready)
 
 -- what was added in place of the last product, and how it was found
-module _ (A : Algebra) (accepted : IsAccepted A) (B : Algebra) (same : B ≡ A) (n : ℕ) (vars : n ≡ A.order.vars)
+module _ (A : Algebra) (accepted : IsGAlgebra A) (B : Algebra) (same : B ≡ A) (n : ℕ) (vars : n ≡ A.order.vars)
     (start rest new : ProductSum) (k : ℕ) (fs tail tail' : List Monomial) (x : Crossing) (tails : tail' ≡ tail)
     (added : (f : ProductSum) × (IsSwap B k x tail' f × (new ≡ rest ++ f)))
     (crossed : IsCrossing n x × HaveVars n tail × (stacked_word fs ≡ sorted_word x.left ++ (sorted_word x.right ++ stacked_word tail))) where
@@ -98,7 +98,7 @@ pub loop-sorted-smaller : goal.loop-sorted-smaller
 loop-sorted-smaller c =
     let s = (goal.at.loop-sorted-smaller c).In-Some in
     let A = c.args.seat.now.algebra in
-    let accepted : IsAccepted A = subst IsAccepted c.algebra.ensures c.n-n.ensures.accepted in
+    let accepted : IsGAlgebra A = subst IsGAlgebra c.algebra.ensures c.n-n.ensures.accepted in
     falls A accepted c.loop-sorted.seat.algebra c.loop-sorted.invariant.algebra c.n-n.result (vars s)
     (products_in c.args.pending.now.open.items c.args.pending.now.factors.items)
     (products_in c.pop.new.self.open.items c.pop.new.self.factors.items)
@@ -112,7 +112,7 @@ pub loop-sorted-preserved : goal.loop-sorted-preserved
 loop-sorted-preserved c =
     let s = (goal.at.loop-sorted-preserved c).In-Some in
     let A = c.args.seat.now.algebra in
-    let accepted : IsAccepted A = subst IsAccepted c.algebra.ensures c.n-n.ensures.accepted in
+    let accepted : IsGAlgebra A = subst IsGAlgebra c.algebra.ensures c.n-n.ensures.accepted in
     record {
       counted = c.in_ok-push_swapped-in-Crossed.ensures.counted;
       multiplying =
@@ -135,7 +135,7 @@ returns-clause-value c =
     let A = c.args.seat.now.algebra in
     let start = products_in c.args.pending.now.open.items c.args.pending.now.factors.items in
     let none : c.loop-sorted.pending.open.items ≡ [] = (rw c.in_default.is at c.in_ok-coef.ensures.product).0 in
-    let accepted : IsAccepted A = subst IsAccepted c.algebra.ensures c.n-n.ensures.accepted in
+    let accepted : IsGAlgebra A = subst IsGAlgebra c.algebra.ensures c.n-n.ensures.accepted in
     finish A accepted.field.more start (pairs_of c.loop-sorted.sorted.items)
     (subst (λ ts. IsMultiplying A start (products_in ts c.loop-sorted.pending.factors.items) (pairs_of c.loop-sorted.sorted.items)) none
     c.loop-sorted.invariant.multiplying)

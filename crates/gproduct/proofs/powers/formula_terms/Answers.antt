@@ -23,4 +23,4 @@ returns-in-Some c _ =
     ∙ ap (λ m. cons_nonzero c.in-Some.number m []) mono
     ∙ sym (in_algebra-one A i j b a c.in-Some.number less)
     ∙ sym (ap (in_algebra A i j) one)
-    ∙ sym (normal_form-powers A i j c.args.kind.now a b prime.above_one c.n-n.ensures.accepted.paired c.requires.kind)
+    ∙ sym (normal_form-powers A i j c.args.kind.now a b prime.above_one c.n-n.ensures.accepted.downward c.requires.kind)

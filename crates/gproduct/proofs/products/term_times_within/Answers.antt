@@ -3,7 +3,7 @@ use Rattle.monomials.specs.Orders.{order_cmp}
 use Rattle.monomials.specs.Polynomials.{HasNumbers, IsPolynomial, poly_scale}
 use Rattle.monomials.proofs.Operations.{HasNumbers-canonical}
 use Rattle.word_model.specs.Words.{Algebra}
-use Rattle.word_model.specs.Conditions.{IsAccepted}
+use Rattle.word_model.specs.Conditions.{IsGAlgebra}
 use Rattle.word_model.specs.Products.{product}
 use Rattle.gproduct.specs.Factors.{power}
 use Rattle.gproduct.proofs.Stages.{IsStage, first_stage, next_stage, last_stage, stage_degree}
@@ -18,7 +18,7 @@ scale-requires-clause-numbers c =
 pub loop-v-init : goal.loop-v-init
 loop-v-init c =
     let A = c.args.seat.now.algebra in
-    let accepted : IsAccepted A = subst IsAccepted c.algebra-algebra.ensures c.n-v.ensures.accepted in
+    let accepted : IsGAlgebra A = subst IsGAlgebra c.algebra-algebra.ensures c.n-v.ensures.accepted in
     let n : c.n-v.result ≡ A.order.vars = c.n-v.ensures.value ∙ ap (λ (A : Algebra). A.order.vars) c.algebra-algebra.ensures in
     let prime : c.field.result ≡ A.p = c.field.ensures ∙ ap (λ (A : Algebra). A.p) c.algebra-algebra.ensures in
     let scaled : c.in_ok-product.product ≡ poly_scale A.p c.args.coef c.args.f.now = c.in_ok-product.ensures.value ∙ ap (λ p. poly_scale p c.args.coef c.args.f.now) prime in
@@ -46,7 +46,7 @@ power_times-requires-clause-sorted c =
 pub power_times-requires-clause-within : goal.power_times-requires-clause-within
 power_times-requires-clause-within c =
     let A = c.args.seat.now.algebra in
-    let accepted : IsAccepted A = subst IsAccepted c.algebra-algebra.ensures c.n-v.ensures.accepted in
+    let accepted : IsGAlgebra A = subst IsGAlgebra c.algebra-algebra.ensures c.n-v.ensures.accepted in
     omega (
       arith,
       stage_degree A accepted c.args.coef c.args.mono.now c.args.f.now c.requires.vars c.loop-v.v (omega (arith, c.loop-v-test.true)) c.loop-v.invariant.at_most
@@ -57,7 +57,7 @@ pub loop-v-preserved : goal.loop-v-preserved
 loop-v-preserved c =
     let A = c.args.seat.now.algebra in
     let v = c.loop-v.v in
-    let accepted : IsAccepted A = subst IsAccepted c.algebra-algebra.ensures c.n-v.ensures.accepted in
+    let accepted : IsGAlgebra A = subst IsGAlgebra c.algebra-algebra.ensures c.n-v.ensures.accepted in
     let value : c.in_ok-product-2.product ≡ product A ((1, power A.order.vars v c.get.result) ∷ []) c.loop-v.product =
     c.in_ok-product-2.ensures.value ∙ ap (λ (A : Algebra). product A ((1, power A.order.vars v c.get.result) ∷ []) c.loop-v.product) c.loop-v.invariant.algebra in
     record {
@@ -74,7 +74,7 @@ loop-v-preserved c =
 pub returns-clause-value : goal.returns-clause-value
 returns-clause-value c =
     let A = c.args.seat.now.algebra in
-    let accepted : IsAccepted A = subst IsAccepted c.algebra-algebra.ensures c.n-v.ensures.accepted in
+    let accepted : IsGAlgebra A = subst IsGAlgebra c.algebra-algebra.ensures c.n-v.ensures.accepted in
     let none : c.loop-v.v ≡ 0 = omega (arith, c.loop-v-test.false) in
     last_stage A accepted c.args.coef c.args.mono.now c.args.f.now c.requires.vars c.loop-v.product
     (subst (λ v. IsStage A c.args.coef c.args.mono.now c.args.f.now v c.loop-v.product) none c.loop-v.invariant.stage)

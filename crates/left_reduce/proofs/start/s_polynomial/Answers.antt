@@ -5,7 +5,7 @@ use Rattle.monomials.specs.Polynomials.{HasNumbers, IsPolynomial, poly_scale, po
 use Rattle.monomials.specs.Leading.{leading_monomial, leading_coefficient}
 use Rattle.monomials.proofs.Operations.{HasNumbers-polynomial}
 use Rattle.word_model.specs.Words.{Algebra}
-use Rattle.word_model.specs.Conditions.{IsAccepted}
+use Rattle.word_model.specs.Conditions.{IsGAlgebra}
 use Rattle.word_model.specs.Reduction.{quotient, multiple}
 use Rattle.left_reduce.proofs.Factors.{Reaches, reaches}
 use Rattle.left_reduce.proofs.Made.{s_polynomial-made}
@@ -85,7 +85,7 @@ pub returns-clause-value : goal.returns-clause-value
 returns-clause-value o c =
     let at = goal.at.returns-clause-value o c in
     let A : Algebra = c.args.seat.now.algebra in
-    let ok : IsAccepted A = subst IsAccepted c.algebra-alg.ensures c.n-n.ensures.accepted in
+    let ok : IsGAlgebra A = subst IsGAlgebra c.algebra-alg.ensures c.n-n.ensures.accepted in
     let first = c.in_ok-first.first in
     let second = c.in_ok-second.second in
     let k = c.quotient-k.result in

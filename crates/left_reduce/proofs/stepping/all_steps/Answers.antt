@@ -4,7 +4,7 @@ use Rattle.monomials.proofs.Keys.{Each-weaker}
 use Rattle.monomials.proofs.Operations.{HasNumbers-polynomial}
 use Rattle.gpoly.specs.Terms.{pair_of}
 use Rattle.word_model.specs.Words.{Algebra}
-use Rattle.word_model.specs.Conditions.{IsAccepted}
+use Rattle.word_model.specs.Conditions.{IsGAlgebra}
 use Rattle.word_model.specs.Products.{degree_limit}
 use Rattle.word_model.specs.Reduction.{Ends, Undefined, Goes, next_step}
 use Rattle.word_model.proofs.Reductions.{next_step-sorted}
@@ -66,7 +66,7 @@ fewer : (g : given.Over) (c : In-Step g)
 fewer g c =
     let D = max degree_limit (poly_degree c.args.h) in
     let wide : degree_limit ≤ D = omega arith in
-    fewer_steps c.args.seat.now.algebra (subst IsAccepted c.algebra.ensures c.n-n.ensures.accepted) (g.B.Elements.elements c.args.basis.now) c.requires.sorted
+    fewer_steps c.args.seat.now.algebra (subst IsGAlgebra c.algebra.ensures c.n-n.ensures.accepted) (g.B.Elements.elements c.args.basis.now) c.requires.sorted
     D wide c.loop-target.rest c.in-Step.step c.in-Step.left c.loop-target.invariant.sorted c.loop-target.invariant.low c.args.aim (stepped g c)
 
 pub loop-target-smaller : goal.loop-target-smaller
@@ -77,7 +77,7 @@ loop-target-preserved g c =
     let at = (goal.at.loop-target-preserved g c).In-Step in
     let A : Algebra = c.args.seat.now.algebra in
     let G = g.B.Elements.elements c.args.basis.now in
-    let ok : IsAccepted A = subst IsAccepted c.algebra.ensures c.n-n.ensures.accepted in
+    let ok : IsGAlgebra A = subst IsGAlgebra c.algebra.ensures c.n-n.ensures.accepted in
     let aim = c.args.aim in
     let rest = c.loop-target.rest in
     let so_far = c.loop-target.invariant in
@@ -103,7 +103,7 @@ over : (g : given.Over) (c : In-Over g)
 over g c =
     let A : Algebra = c.args.seat.now.algebra in
     let G = g.B.Elements.elements c.args.basis.now in
-    let ok : IsAccepted A = subst IsAccepted c.algebra.ensures c.n-n.ensures.accepted in
+    let ok : IsGAlgebra A = subst IsGAlgebra c.algebra.ensures c.n-n.ensures.accepted in
     let aim = c.args.aim in
     let rest = c.loop-target.rest in
     let so_far = c.loop-target.invariant in
@@ -131,7 +131,7 @@ ended : (g : given.Over) (c : In_default g)
 ended g c =
     let A : Algebra = c.args.seat.now.algebra in
     let G = g.B.Elements.elements c.args.basis.now in
-    let ok : IsAccepted A = subst IsAccepted c.algebra.ensures c.n-n.ensures.accepted in
+    let ok : IsGAlgebra A = subst IsGAlgebra c.algebra.ensures c.n-n.ensures.accepted in
     let aim = c.args.aim in
     let rest = c.loop-target.rest in
     let so_far = c.loop-target.invariant in

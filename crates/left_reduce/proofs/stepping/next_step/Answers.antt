@@ -6,7 +6,7 @@ use Rattle.monomials.specs.Leading.{leading_monomial, leading_coefficient}
 use Rattle.monomials.proofs.Operations.{HasNumbers-polynomial}
 use Rattle.gpoly.specs.Terms.{pair_of}
 use Rattle.word_model.specs.Words.{Algebra}
-use Rattle.word_model.specs.Conditions.{IsAccepted}
+use Rattle.word_model.specs.Conditions.{IsGAlgebra}
 use Rattle.word_model.specs.Reduction.{element, quotient, multiple, is_within, Goes}
 use Rattle.left_reduce.proofs.Factors.{HasDivisor, has_divisor, leading-below}
 use Rattle.left_reduce.proofs.Made.{step-made}
@@ -102,7 +102,7 @@ pub returns-clause-value : goal.returns-clause-value
 returns-clause-value g c =
     let at = goal.at.returns-clause-value g c in
     let A : Algebra = c.args.seat.now.algebra in
-    let ok : IsAccepted A = subst IsAccepted c.algebra-alg.ensures c.n-n.ensures.accepted in
+    let ok : IsGAlgebra A = subst IsGAlgebra c.algebra-alg.ensures c.n-n.ensures.accepted in
     let t = c.args.target.now in
     let h = c.args.h.now in
     let G = g.B.Elements.elements c.args.basis.now in

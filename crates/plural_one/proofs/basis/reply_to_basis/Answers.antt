@@ -4,7 +4,7 @@ use Rattle.std.proofs.lemmas.Result.{IfOk-weaker}
 use Rattle.monomials.specs.Polynomials.{Polynomial, Each}
 use Rattle.word_model.specs.Words.{Algebra, Word}
 use Rattle.word_model.specs.Products.{letters_product}
-use Rattle.word_model.specs.Conditions.{IsAccepted}
+use Rattle.word_model.specs.Conditions.{IsGAlgebra}
 use Rattle.word_model.specs.Machine.{Journal, machine, IsElement, most_elements}
 use Rattle.word_model.specs.declared.records.Mode.TheVariants.{Left}
 use Rattle.word_model.specs.Answers.{run_answer, refused, run_budget}
@@ -16,7 +16,7 @@ pub reply_to_list-requires-clause-elements : goal.reply_to_list-requires-clause-
 reply_to_list-requires-clause-elements g c =
     let A : Algebra = c.args.seat.now.algebra in
     let gens : List Polynomial = c.in_ok-generators.generators.items in
-    let accepted : IsAccepted A = subst IsAccepted c.algebra-algebra.ensures c.n-n.ensures.accepted in
+    let accepted : IsGAlgebra A = subst IsGAlgebra c.algebra-algebra.ensures c.n-n.ensures.accepted in
     let made : c.in_ok-run.run' ≡ machine A gens Left run_budget =
     c.in_ok-run.ensures.value ∙ (λ t. machine (c.algebra-algebra.ensures t) (c.deref.ensures.value t) Left run_budget) in
     let elements : Each (IsElement A) c.in_ok-run.run'.basis =
@@ -28,7 +28,7 @@ pub reply_to_list-requires-clause-few : goal.reply_to_list-requires-clause-few
 reply_to_list-requires-clause-few g c =
     let A : Algebra = c.args.seat.now.algebra in
     let gens : List Polynomial = c.in_ok-generators.generators.items in
-    let accepted : IsAccepted A = subst IsAccepted c.algebra-algebra.ensures c.n-n.ensures.accepted in
+    let accepted : IsGAlgebra A = subst IsGAlgebra c.algebra-algebra.ensures c.n-n.ensures.accepted in
     let made : c.in_ok-run.run' ≡ machine A gens Left run_budget =
     c.in_ok-run.ensures.value ∙ (λ t. machine (c.algebra-algebra.ensures t) (c.deref.ensures.value t) Left run_budget) in
     subst (λ (run : Journal). length run.basis ≤ most_elements) (sym made)

@@ -7,6 +7,6 @@ pub returns-in-Ok-clause-degree : goal.returns-in-Ok-clause-degree
 returns-in-Ok-clause-degree g c =
     let accepted = rw c.algebra.ensures at c.n-n.ensures.accepted in
     let bound =
-    poly_degree-variable c.args.seat.now.algebra accepted.paired c.args.f.now c.args.letter c.requires.polynomial.vars
+    poly_degree-variable c.args.seat.now.algebra accepted.downward c.args.f.now c.args.letter c.requires.polynomial.vars
     c.requires.first c.requires.last in
     omega (arith, ap poly_degree c.in-Ok.ensures.value, bound)

@@ -30,7 +30,7 @@ pub returns-clause-value : goal.returns-clause-value
 returns-clause-value c =
     let A : Algebra = c.args.alg.now in
     let nonzero : c_of A c.args.i c.args.j ≢ 0 =
-    λ zero. c.n-n.ensures.accepted.regular.nonzero c.args.i c.args.j c.requires.first c.requires.pair c.requires.last (ap (λ k. k % A.p) zero) in
+    λ zero. c.n-n.ensures.accepted.nonzero.nonzero c.args.i c.args.j c.requires.first c.requires.pair c.requires.last (ap (λ k. k % A.p) zero) in
     IfOk-weaker c.add.result _ _
     (λ r is. is ∙ right_side-made A c.args.i c.args.j _ _ _ _ c.c.result c.plus.result c.in_ok-leading.leading c.d.result.now
     c.order.ensures c.order-2.ensures c.field.ensures c.field-2.ensures c.c.ensures

@@ -1,5 +1,5 @@
 use Rattle.word_model.proofs.Acceptance.{accepted, IsField-prime}
-use Rattle.word_model.proofs.TwoVariables.{relations_fault-two_variables, IsAlgebraData-two_variables, IsAccepted-two_variables}
+use Rattle.word_model.proofs.TwoVariables.{relations_fault-two_variables, IsAlgebraData-two_variables, IsGAlgebra-two_variables}
 use Rattle.word_model.proofs.laws.acceptance.Goals as goal
 
 pub returns : goal.returns
@@ -9,6 +9,6 @@ returns c = record {
   two_variables = λ p c e field nonzero. (
     relations_fault-two_variables p c e field.more nonzero,
     IsAlgebraData-two_variables p c e field.more,
-    IsAccepted-two_variables p c e field nonzero,
+    IsGAlgebra-two_variables p c e field nonzero,
   );
 }

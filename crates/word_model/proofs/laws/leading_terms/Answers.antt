@@ -3,6 +3,6 @@ use Rattle.word_model.proofs.laws.leading_terms.Goals as goal
 
 pub returns : goal.returns
 returns c = record {
-  nonzero = λ A f g field paired regular hf hg fs gs. (leading_monomial-product A field paired regular f g fs gs hf hg).0;
-  leading = λ A f g field paired regular hf hg fs gs. (leading_monomial-product A field paired regular f g fs gs hf hg).1;
+  nonzero = λ A f g field downward nonzero_numbers hf hg fs gs. (leading_monomial-product A field downward nonzero_numbers f g fs gs hf hg).0;
+  leading = λ A f g field downward nonzero_numbers hf hg fs gs. (leading_monomial-product A field downward nonzero_numbers f g fs gs hf hg).1;
 }

@@ -81,7 +81,7 @@ loop-term-smaller c =
       arith,
       ap (sum_measure algebra) (taken (goal.at.loop-term-smaller c).In-Some),
       ap (sum_measure algebra) c.in_ok-push_rewritten-in-Some-leftmost_descent.ensures,
-      step_falls algebra c.requires.paired (words_of c.pop.new.self.items)
+      step_falls algebra c.requires.downward (words_of c.pop.new.self.items)
           c.in-Some.term.coef word at (its_word (goal.at.loop-term-smaller c).In-Some) (its_length (goal.at.loop-term-smaller c).In-Some)
           (its_descent (goal.at.loop-term-smaller c).In-Some-leftmost_descent),
     )
@@ -93,7 +93,7 @@ loop-term-preserved c =
     let at = descent_at c.in-Some-leftmost_descent.place word in
     subst (λ f. IsRewriting algebra (words_of c.args.pending.items) f (pairs_of c.loop-term.sorted.items))
     (sym c.in_ok-push_rewritten-in-Some-leftmost_descent.ensures)
-    (go_on algebra c.requires.paired (omega (arith, c.field-p.ensures.prime.above_one)) (words_of c.args.pending.items) (words_of c.pop.new.self.items) c.in-Some.term.coef word (pairs_of c.loop-term.sorted.items) at
+    (go_on algebra c.requires.downward (omega (arith, c.field-p.ensures.prime.above_one)) (words_of c.args.pending.items) (words_of c.pop.new.self.items) c.in-Some.term.coef word (pairs_of c.loop-term.sorted.items) at
     (before (goal.at.loop-term-preserved c).In-Some) (its_descent (goal.at.loop-term-preserved c).In-Some-leftmost_descent))
 
 pub returns-clause-value : goal.returns-clause-value

@@ -11,7 +11,7 @@ word_value-requires-clause-pending c =
     let a = c.args.self.now in
     subst (IsPending a.p a.order.vars) (sym c.in_ok-words.ensures)
     (IsPending-reduced a.p a.order.vars (overlap a c.args.i c.args.j c.args.k) (omega (arith, c.field-p.ensures.prime.above_one))
-    (overlap_fits a c.requires.paired c.args.i c.args.j c.args.k c.requires.first c.requires.second c.requires.third c.requires.last))
+    (overlap_fits a c.requires.downward c.args.i c.args.j c.args.k c.requires.first c.requires.second c.requires.third c.requires.last))
 
 pub returns : goal.returns
 returns c =

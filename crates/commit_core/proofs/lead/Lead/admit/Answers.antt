@@ -1,7 +1,7 @@
 use Rattle.std.proofs.Common.{◌≡◌, List, ◌∷◌, ◌++◌, length, drop, Ok, refl, sym, ap, ◌∙◌, subst}
 use Rattle.monomials.specs.Polynomials.{Polynomial, Each}
 use Rattle.word_model.specs.Words.{Algebra}
-use Rattle.word_model.specs.Conditions.{IsAccepted}
+use Rattle.word_model.specs.Conditions.{IsGAlgebra}
 use Rattle.word_model.specs.Machine.{State, On, jobs_of}
 use Rattle.word_model.specs.declared.records.Job.{Job}
 use Rattle.pair_strategy.specs.Queues.{jobs_in, HasKey, SameJobs}
@@ -48,7 +48,7 @@ invariant_of-self-2 c =
     (subst (λ (fs : List Polynomial). Each (HasKey c.args.alg.now fs lead.progress.basis.items) lead.progress.queue.items
     → Each (HasKey c.args.alg.now fs (after c).basis) c.admit.new.self.queue.items) gens is.keys) in
     lead-on lead.algebra.value lead.generators.items lead.mode lead.budget lead.outcome (state_of (kept_run lead)) (after c) lead.progress.queue c.admit.new.self.queue
-    (subst IsAccepted (algebra_is c) c.n-n.ensures.accepted) going c.self.invariant (committed c) c.admit.ensures.order refl (keys c.self.invariant.keys)
+    (subst IsGAlgebra (algebra_is c) c.n-n.ensures.accepted) going c.self.invariant (committed c) c.admit.ensures.order refl (keys c.self.invariant.keys)
 
 pub returns-clause-step : goal.returns-clause-step
 returns-clause-step c =

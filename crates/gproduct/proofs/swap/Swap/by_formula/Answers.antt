@@ -58,7 +58,7 @@ returns c =
     ap pairs_of c.deref-2.ensures.value ∙ c.in_ok-terms.ensures
     ∙ (λ k. map (in_variables (c.n-n.ensures.value k) c.args.self.i c.args.self.j) (powers_of (c.deref.ensures.value k))) in
     let formula : normal_form A (swap_word c.args.self) ≡ in_algebra A c.args.self.i c.args.self.j ts =
-    c.in_ok-powers.ensures.value A c.args.self.i c.args.self.j (sym c.field.ensures) c.n-n.ensures.accepted.paired c.requires.kind in
+    c.in_ok-powers.ensures.value A c.args.self.i c.args.self.j (sym c.field.ensures) c.n-n.ensures.accepted.downward c.requires.kind in
     IfOk-weaker c.from_terms.result _ _
     (λ r is. is ∙ (λ k. from_terms (order_cmp (c.order.ensures k).rows) (c.field-2.ensures k) (terms k)) ∙ sym formula)
     c.from_terms.ensures.value

@@ -10,7 +10,8 @@ use Rattle.plural_lexer.specs.declared.pieces.Piece.TheVariants as p
 use Rattle.plural_lexer.specs.declared.pieces.Cause.TheVariants as cause
 use Rattle.plural_lexer.specs.declared.pieces.Class.TheVariants.{Word, Digit, Line}
 use Rattle.plural_lexer.specs.Places.{place_of}
-use Rattle.plural_lexer.specs.Pieces.{piece, word, number, comment, comment_len, is_reserved, is_in, is_letter, is_digit, is_blank, is_sign}
+use Rattle.plural_lexer.specs.Letters.{is_letter, is_digit}
+use Rattle.plural_lexer.specs.Pieces.{piece, word, number, comment, comment_len, is_reserved, is_in, is_blank, is_sign}
 use Rattle.plural_lexer.specs.Tokens.{IsLexed, behind, token_at, end_of, fault_at, HasNoEnd}
 use Rattle.plural_lexer.specs.Tokens.IsLexed.{ends, blank, takes, fails}
 

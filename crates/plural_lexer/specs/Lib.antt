@@ -1,3 +1,4 @@
+pub mod Letters
 pub mod Places
 pub mod Pieces
 pub mod Tokens

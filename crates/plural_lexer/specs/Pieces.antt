@@ -1,23 +1,16 @@
 -- What stands at the front of a script's bytes: as many bytes as go together.
-use Rattle.std.specs.Prelude.{ℕ, ◌+◌, ◌≤◌, ◌<◌, ◌==◌, nat_le, not, ◌&&◌, ◌||◌, Bool, if◌then◌else◌, List, [], ◌∷◌, length, map, take, drop, slice_index, Option, Some, None, codes}
+use Rattle.std.specs.Prelude.{ℕ, ◌+◌, ◌≤◌, ◌<◌, ◌==◌, nat_le, not, ◌&&◌, ◌||◌, Bool, if◌then◌else◌, List, [], ◌∷◌, length, take, drop, slice_index, Option, Some, None, codes}
 use lib.Pointwise.{pointwise}
 use lib.Dec.{eqb}
-use Rattle.plural_lexer.specs.declared.pieces.TheConstants.{RESERVED}
 use Rattle.std.specs.List.{prefix_len, list_any}
 use Rattle.std.specs.Option.{option_map}
+use Rattle.plural_lexer.specs.Letters.{is_letter, is_digit, is_name_byte}
 use Rattle.plural_lexer.specs.declared.token.TokenKind.TheVariants.{Name, Reserved, Int, Sign}
 use Rattle.plural_lexer.specs.declared.pieces.Class.{Class}
 use Rattle.plural_lexer.specs.declared.pieces.Class.TheVariants.{Word, Digit, Line}
 use Rattle.plural_lexer.specs.declared.pieces.Piece.{Piece}
 use Rattle.plural_lexer.specs.declared.pieces.Piece.TheVariants.{Blank, Token, Fault}
 use Rattle.plural_lexer.specs.declared.pieces.Cause.TheVariants.{BadByte, LongNumber, OpenComment}
-
--- A to Z, a to z
-abbrev pub is_letter : ℕ → Bool
-is_letter b = (nat_le 65 b && nat_le b 90) || (nat_le 97 b && nat_le b 122)
-
-abbrev pub is_digit : ℕ → Bool
-is_digit b = nat_le 48 b && nat_le b 57
 
 -- space, tab, carriage return, line feed
 abbrev pub is_blank : ℕ → Bool
@@ -28,7 +21,7 @@ is_sign b = list_any (λ s. s == b) (codes "=,;()[]+-*/^")
 
 -- a word goes on with letters, digits and _, a line with all but a line feed
 abbrev pub is_in : Class → ℕ → Bool
-is_in Word b = is_letter b || is_digit b || b == 95
+is_in Word b = is_name_byte b
 is_in Digit b = is_digit b
 is_in Line b = not (b == 10)
 
@@ -40,8 +33,14 @@ comment_len (b ∷ bs) = if b == 42 && slice_index bs 0 == 47 then Some 2 else o
 abbrev pub is_one_of : List ℕ → List (List ℕ) → Bool
 is_one_of word words = list_any (λ w. pointwise eqb w word) words
 
+abbrev pub reserved_words : List (List ℕ)
+reserved_words =
+    codes "ring" ∷ codes "setring" ∷ codes "def" ∷ codes "poly" ∷ codes "ideal" ∷ codes "module" ∷ codes "matrix" ∷
+    codes "option" ∷ codes "short" ∷ codes "quit" ∷ codes "nc_algebra" ∷ codes "std" ∷ codes "twostd" ∷ codes "NF" ∷
+    codes "reduce" ∷ codes "eliminate" ∷ codes "syz" ∷ codes "cofactors" ∷ codes "twochain" ∷ codes "summary" ∷ []
+
 unfoldable pub is_reserved : List ℕ → Bool
-is_reserved word = is_one_of word (map (λ w. w.now) RESERVED)
+is_reserved word = is_one_of word reserved_words
 
 unfoldable pub word : List ℕ → Piece
 word bytes = let n = prefix_len (is_in Word) bytes in Token (if is_reserved (take n bytes) then Reserved else Name) n

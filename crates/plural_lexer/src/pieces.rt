@@ -4,6 +4,7 @@ ghost use Rattle.std.specs.Prelude.{◌≡◌, ◌<◌, ◌≤◌, length, map, 
 ghost use Rattle.std.specs.List.{prefix_len};
 ghost use Rattle.plural_lexer.specs.Pieces as spec;
 
+use crate::letters::{is_digit, is_letter, is_name_byte};
 use crate::token::TokenKind;
 
 /// What makes a fault.
@@ -57,18 +58,6 @@ const RESERVED: [&[u8]; 20] = [
 
 const LONGEST_NUMBER: usize = 18;
 
-fn is_letter(byte: u8) -> bool
-    ensures { result ≡ spec.is_letter byte }
-{
-    (b'A' <= byte && byte <= b'Z') || (b'a' <= byte && byte <= b'z')
-}
-
-fn is_digit(byte: u8) -> bool
-    ensures { result ≡ spec.is_digit byte }
-{
-    b'0' <= byte && byte <= b'9'
-}
-
 fn is_blank(byte: u8) -> bool
     ensures { result ≡ spec.is_blank byte }
 {
@@ -85,7 +74,7 @@ fn is_in(class: Class, byte: u8) -> bool
     ensures { result ≡ spec.is_in class byte }
 {
     match class {
-        Class::Word => is_letter(byte) || is_digit(byte) || byte == b'_',
+        Class::Word => is_name_byte(byte),
         Class::Digit => is_digit(byte),
         Class::Line => byte != b'\n',
     }

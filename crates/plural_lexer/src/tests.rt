@@ -33,7 +33,9 @@ rings NF2 NF a_1|[Name 0..5 at 1:1][Name 6..9 at 1:7][Reserved 10..12 at 1:11][N
 x//2;|[Name 0..1 at 1:1][End 5..5 at 1:6]
 x!y~!z|[Name 0..1 at 1:1][Name 2..3 at 1:3][Name 5..6 at 2:2][End 6..6 at 2:3]
 /*/x/**/*/y|[Sign 8..9 at 1:9][Sign 9..10 at 1:10][Name 10..11 at 1:11][End 11..11 at 1:12]
-000000000000000018/2|[Int 0..18 at 1:1][Sign 18..19 at 1:19][Int 19..20 at 1:20][End 20..20 at 1:21]";
+000000000000000018/2|[Int 0..18 at 1:1][Sign 18..19 at 1:19][Int 19..20 at 1:20][End 20..20 at 1:21]
+ring setring def poly ideal module matrix option short quit nc_algebra std twostd NF reduce eliminate syz cofactors twochain summary|[Reserved 0..4 at 1:1][Reserved 5..12 at 1:6][Reserved 13..16 at 1:14][Reserved 17..21 at 1:18][Reserved 22..27 at 1:23][Reserved 28..34 at 1:29][Reserved 35..41 at 1:36][Reserved 42..48 at 1:43][Reserved 49..54 at 1:50][Reserved 55..59 at 1:56][Reserved 60..70 at 1:61][Reserved 71..74 at 1:72][Reserved 75..81 at 1:76][Reserved 82..84 at 1:83][Reserved 85..91 at 1:86][Reserved 92..101 at 1:93][Reserved 102..105 at 1:103][Reserved 106..115 at 1:107][Reserved 116..124 at 1:117][Reserved 125..132 at 1:126][End 132..132 at 1:133]
+=,;()[]+-*/^|[Sign 0..1 at 1:1][Sign 1..2 at 1:2][Sign 2..3 at 1:3][Sign 3..4 at 1:4][Sign 4..5 at 1:5][Sign 5..6 at 1:6][Sign 6..7 at 1:7][Sign 7..8 at 1:8][Sign 8..9 at 1:9][Sign 9..10 at 1:10][Sign 10..11 at 1:11][Sign 11..12 at 1:12][End 12..12 at 1:13]";
 
 #[test]
 fn tokens_of_scripts(rt: HostRuntime) -> Result<(), Fail> {
@@ -76,6 +78,27 @@ fn places_of_faults(rt: HostRuntime) -> Result<(), Fail> {
         let bytes = bytes_of(alloc, script)?;
         let fault = tokens(alloc, &bytes).err().ok_or("a fault")?;
         let shown = format!(in alloc; "{fault:?}")?;
+        assert_eq!(rt; shown.as_str(), want);
+    }
+    Ok(())
+}
+
+// Texts with the numbers of at most nine digits that they spell.
+const NUMBERS: &str = "\
+|None
+0|Some(0)
+007|Some(7)
+999999999|Some(999999999)
+0000000001|None
+1a|None
+-1|None";
+
+#[test]
+fn numbers_of_texts(rt: HostRuntime) -> Result<(), Fail> {
+    for row in NUMBERS.lines() {
+        let (text, want) = row.split_once('|').ok_or("a row has a bar")?;
+        let found = number_of(text.as_bytes(), 9);
+        let shown = format!(in rt.alloc(); "{found:?}")?;
         assert_eq!(rt; shown.as_str(), want);
     }
     Ok(())

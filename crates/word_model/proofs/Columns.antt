@@ -10,7 +10,7 @@ use Rattle.word_model.specs.Words.{Algebra, sorted_word, normal_form}
 use Rattle.word_model.specs.Conditions.{IsGAlgebra}
 use Rattle.word_model.specs.Reduction.{element}
 use Rattle.word_model.specs.Cofactors.{Row, row_value, row_at}
-use Rattle.word_model.specs.Syzygies.{column, IsCombination}
+use Rattle.word_model.specs.Syzygies.{column, IsRowCombination}
 use Rattle.word_model.proofs.NormalForms.{same_weights}
 use Rattle.word_model.proofs.LeastNumbers.{Each-element}
 use Rattle.word_model.proofs.MultipleWeights.{behind, Multiple, multiple_weight}
@@ -98,7 +98,7 @@ module _ (A : Algebra) (ok : IsGAlgebra A) (Z : List Row) where
   named : (s : ℕ) (k : Multiple) → IsRowMultiple A Z k → IsMultiple A (column Z s) k
   named s k h = (h.0, (h.1, omega (arith, h.2, length-column Z s)))
 
-  pub row_sum-combination : (q : Row) → Each (IsPolynomial A.p A.order) q → IsRowSum A Z (λ Φ. see Φ 1 q) → IsCombination A Z q
+  pub row_sum-combination : (q : Row) → Each (IsPolynomial A.p A.order) q → IsRowSum A Z (λ Φ. see Φ 1 q) → IsRowCombination A Z q
   row_sum-combination q q_is sum = (
     collected A ok 1 sum.terms (column Z 0),
     length-collected A ok 1 sum.terms (column Z 0) ∙ length-column Z 0,

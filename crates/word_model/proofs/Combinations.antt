@@ -15,7 +15,7 @@ use Rattle.word_model.specs.Products.{product}
 use Rattle.word_model.specs.Conditions.{IsGAlgebra}
 use Rattle.word_model.specs.Reduction.{element}
 use Rattle.word_model.specs.Cofactors.{Row, row_value}
-use Rattle.word_model.specs.Ideals.{InLeftIdeal, EachLead}
+use Rattle.word_model.specs.Ideals.{InLeftIdeal, EachLeading}
 use Rattle.word_model.proofs.NormalForms.{row_weight, weigh-product, product_is_polynomial, same_weights}
 use Rattle.word_model.proofs.LeadingMonomials.{order}
 use Rattle.word_model.proofs.Sums.{IsSum}
@@ -135,7 +135,7 @@ module _ (A : Algebra) (ok : IsGAlgebra A) where
   first_key P (t ∷ f) h nonzero = h.0
 
   collected-leads : (P : Monomial → Type 0) (i : ℕ) (r : List (ℕ × Multiple)) (H : List Polynomial)
-      → Each (λ e. i ≤ e.1.1 → e.1.1 < i + length H → P (plus e.1.0 (leading_monomial (slice_index_or H (e.1.1 - i) [])))) r → EachLead P (collected i r H) H
+      → Each (λ e. i ≤ e.1.1 → e.1.1 < i + length H → P (plus e.1.0 (leading_monomial (slice_index_or H (e.1.1 - i) [])))) r → EachLeading P (collected i r H) H
   unfolding collected
   collected-leads P i r [] h = tt
   collected-leads P i r (g ∷ H) h = (
@@ -180,7 +180,7 @@ module _ (A : Algebra) (ok : IsGAlgebra A) where
   -- a sum of multiples that reach what has the property P, as a left combination
   pub sum_combination : (P : Monomial → Type 0) (G : List Polynomial) (f : Polynomial) → IsPolynomial A.p A.order f
       → IsSum A.p (multiple_weight A G) (λ k. IsMultiple A G k × P (top A G k)) (λ φ. weigh φ f)
-      → (q : Row) × (length q ≡ length G) × Each (IsPolynomial A.p A.order) q × EachLead P q G × (row_value A q G ≡ f)
+      → (q : Row) × (length q ≡ length G) × Each (IsPolynomial A.p A.order) q × EachLeading P q G × (row_value A q G ≡ f)
   sum_combination P G f f_is s = (
     collected 1 s.terms G,
     length-collected 1 s.terms G,
@@ -193,7 +193,7 @@ module _ (A : Algebra) (ok : IsGAlgebra A) where
   -- the left ideal of a list is its span
   pub span_in_ideal : (G : List Polynomial) (f : Polynomial) → IsPolynomial A.p A.order f → InSpan A G f → InLeftIdeal A G f
   span_in_ideal G f f_is s =
-      let c : (q : Row) × (length q ≡ length G) × Each (IsPolynomial A.p A.order) q × EachLead (λ m. Unit {0}) q G × (row_value A q G ≡ f) =
+      let c : (q : Row) × (length q ≡ length G) × Each (IsPolynomial A.p A.order) q × EachLeading (λ m. Unit {0}) q G × (row_value A q G ≡ f) =
       sum_combination (λ m. Unit {0}) G f f_is (record { terms = s.terms; each = Each-weaker _ _ (λ e h. (h, tt)) s.terms s.each; value = s.value }) in
       (c.0, c.1, c.2, c.4)
 

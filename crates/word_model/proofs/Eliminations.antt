@@ -13,7 +13,7 @@ use Rattle.word_model.specs.Conditions.{IsGAlgebra}
 use Rattle.word_model.specs.Reduction.{element, lead_divides}
 use Rattle.word_model.specs.Cofactors.{Row, row_value}
 use Rattle.word_model.specs.Ideals.{InLeftIdeal, IsOneOf, IsReducedBasis}
-use Rattle.word_model.specs.Elimination.{elimination_order, is_free, restricted, InFreeIdeal}
+use Rattle.word_model.specs.Elimination.{elimination_order, is_free, restricted, InIdealFreeOf}
 use Rattle.word_model.proofs.Letters.{Each-both}
 use Rattle.word_model.proofs.LeastNumbers.{Each-element, lead_divides-nonzero, lead_divides-divides}
 use Rattle.word_model.proofs.Divisions.{length-minus, plus-minus}
@@ -26,7 +26,8 @@ use Rattle.word_model.proofs.Combinations.{ideal_is, span_in_ideal, ideal_in_spa
 use Rattle.word_model.proofs.Unique.{each_one}
 use Rattle.word_model.proofs.Generated.{generated_within}
 use Rattle.word_model.proofs.ReducedLists.{number_of}
-use Rattle.word_model.proofs.FinishedLists.{gens_vars, gens_span, ideal_sub, ideal_multiple}
+use Rattle.word_model.proofs.Deciding.{own_span}
+use Rattle.word_model.proofs.ReducedBases.{left_ideal}
 use Rattle.word_model.proofs.FreePolynomials.{free_keys, keys_free, IsFree, free_below, free_factors, free_by_leading, row_value-free}
 
 -- ---- restricted lists
@@ -107,21 +108,21 @@ module _ (A : Algebra) (ok : IsGAlgebra A) (well : IsWellFounded A.order) (vars 
       let nonzero : g ≢ [] = Each-element (λ f. f ≢ []) few k.1 few_nonzero h.0.1.0 h.0.1.1 in
       (h.0, (free_factors A ok vars old is k.0 (leading_monomial g) h.0.0 (length-leading_monomial A g g_vars nonzero) h.1).0)
 
-  pub in_free_ideal : (f : Polynomial) → InLeftIdeal A gens f → is_free A.order.vars vars f ≡ true → InFreeIdeal A vars few f
+  pub in_free_ideal : (f : Polynomial) → InLeftIdeal A gens f → is_free A.order.vars vars f ≡ true → InIdealFreeOf A vars few f
   in_free_ideal f h free =
       let s : (q : Row) × (length q ≡ length few) × Each (IsPolynomial A.p A.order) q × Each (EachKey Free) q × (row_value A q few ≡ f) =
       sum_combination_by A ok Free few f (ideal_is A ok gens f h)
       (sum_weaker A.p (multiple_weight A few) (λ k. IsMultiple A few k × Free (top A few k)) (λ k. IsMultiple A few k × Free k.0) multiple_free (λ φ. weigh φ f)
-      (generated_within A ok well (InLeftIdeal A gens) (ideal_is A ok gens) (ideal_sub A ok well gens sorted) (ideal_multiple A ok well gens sorted) few few_inside few_is Free
+      (generated_within A ok well (InLeftIdeal A gens) (ideal_is A ok gens) (left_ideal A ok gens sorted).difference (left_ideal A ok gens sorted).multiplied few few_inside few_is Free
       (free_below A ok vars old is) divided f h (free_keys A.order.vars vars f free))) in
       (s.0, s.1, Each-both _ _ _ (λ a a_is keys. (a_is, keys_free A.order.vars vars a keys)) s.0 s.2 s.3, s.4)
 
-  pub free_ideal_in : (f : Polynomial) → InFreeIdeal A vars few f → InLeftIdeal A gens f × (is_free A.order.vars vars f ≡ true)
+  pub free_ideal_in : (f : Polynomial) → InIdealFreeOf A vars few f → InLeftIdeal A gens f × (is_free A.order.vars vars f ≡ true)
   free_ideal_in f h =
       let q_is : Each (IsPolynomial A.p A.order) h.0 = Each-weaker _ _ (λ a k. k.0) h.0 h.2 in
       let left : InLeftIdeal A few f = (h.0, h.1, q_is, h.3) in (
         span_in_ideal A ok gens f (ideal_is A ok few f left)
-            (ideal_in_span A ok gens few (gens_vars A ok well gens sorted) (Each-weaker _ _ (λ f k. gens_span A ok well gens sorted f k) few few_inside) f left),
+            (ideal_in_span A ok gens few (Each-weaker _ _ (λ f h. h.vars) gens sorted) (Each-weaker _ _ (λ f k. (own_span A ok gens sorted).spanned f k) few few_inside) f left),
         keys_free A.order.vars vars f
             (subst (EachKey Free) h.3
             (row_value-free A ok vars old is h.0 few (Each-weaker _ _ (λ a k. k.vars) h.0 q_is) (Each-weaker _ _ (λ a k. k.vars) few few_is)

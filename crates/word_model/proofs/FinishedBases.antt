@@ -1,5 +1,5 @@
 -- The basis of a finished run: all its pairs are linked, it spans the generators, and it decides membership in its span.
-use Rattle.std.proofs.Common.{◌≡◌, ◌≢◌, ℕ, ◌+◌, ◌-◌, ◌*◌, ◌≤◌, ◌⊎◌, ⊎_elim, Less, Equal, true, false, List, [], ◌∷◌, Option, None, refl, sym, ap, ◌∙◌, subst, arith}
+use Rattle.std.proofs.Common.{◌≡◌, ◌≢◌, ℕ, ◌+◌, ◌-◌, ◌*◌, ◌≤◌, ◌⊎◌, ⊎_elim, Less, Equal, List, [], ◌∷◌, refl, sym, ap, ◌∙◌, subst, arith}
 use Rattle.monomials.specs.Monomials.{Monomial}
 use Rattle.monomials.specs.Leading.{leading_monomial}
 use Rattle.monomials.specs.Polynomials.{Polynomial, Each, IsPolynomial, poly_degree}
@@ -12,10 +12,10 @@ use Rattle.monomials.proofs.Keys.{Each-weaker}
 use Rattle.word_model.specs.Words.{Algebra}
 use Rattle.word_model.specs.Conditions.{NonZero, IsGAlgebra}
 use Rattle.word_model.specs.Products.{degree_limit}
-use Rattle.word_model.specs.Reduction.{element, lead_divides, first_divisor, Target, Reduced}
+use Rattle.word_model.specs.Reduction.{element}
 use Rattle.word_model.specs.Jobs.{pair_lcm, s_polynomial}
 use Rattle.word_model.specs.Machine.{Journal, machine, IsElement}
-use Rattle.word_model.specs.Ideals.{IsReducedToZero, IsStartReduced}
+use Rattle.word_model.specs.Ideals.{ReducesToZero, StartReducesToZero}
 use Rattle.word_model.specs.declared.records.Job.{Job}
 use Rattle.word_model.specs.declared.records.Job.TheVariants.{Seed, Pair, Right}
 use Rattle.word_model.specs.declared.records.Mode.{Mode}
@@ -24,18 +24,16 @@ use Rattle.word_model.specs.declared.records.Outcome.TheVariants.{Finished}
 use Rattle.word_model.specs.declared.records.Entry.{Entry}
 use Rattle.word_model.proofs.NormalForms.{Each-always}
 use Rattle.word_model.proofs.LeadingMonomials.{order}
-use Rattle.word_model.proofs.LeastNumbers.{Each-element, first_divisor-none}
+use Rattle.word_model.proofs.LeastNumbers.{Each-element}
 use Rattle.word_model.proofs.Targets.{IsBelow}
 use Rattle.word_model.proofs.Reductions.{IsOf}
-use Rattle.word_model.proofs.Sums.{IsSum, sum_zero, sum_same, sum_add, sum_scale, sum_weaker}
+use Rattle.word_model.proofs.Sums.{IsSum, sum_zero, sum_weaker}
 use Rattle.word_model.proofs.MultipleWeights.{Multiple, multiple_weight, IsThere, Fits, Under, lift}
 use Rattle.word_model.proofs.Connections.{positive, Connected, AllLinked, length-common, divides-common_second}
 use Rattle.word_model.proofs.Collecting.{IsTopped, topped_or_low}
 use Rattle.word_model.proofs.Criterion.{plain, low_is_sum, IsWithin, leads_at, within}
 use Rattle.word_model.proofs.SPolynomials.{pair_number, s_polynomial-is, s_polynomial-below, s_polynomial-value}
-use Rattle.word_model.proofs.ReductionInduction.{IsReduction, reduction_ends}
-use Rattle.word_model.proofs.TraceValues.{terms_of, trace_weight, Says, reduction_says}
-use Rattle.word_model.proofs.ReducedToZero.{lead_divides-is, zero_reduced}
+use Rattle.word_model.proofs.ReducedToZero.{zero_reduced}
 use Rattle.word_model.proofs.Settled.{Treats, IsNumber, IsSettled}
 use Rattle.word_model.proofs.Replays.{pair_of_mode, IsOfMode}
 use Rattle.word_model.proofs.FinishedRuns.{IsTold, machine-told}
@@ -43,7 +41,7 @@ use Rattle.word_model.proofs.Chains.{is_there, all_linked}
 use Rattle.word_model.proofs.Starts.{start_of-seed}
 use Rattle.word_model.proofs.TreatedJobs.{IsStartSum, treated_sum, treated_pair}
 use Rattle.word_model.proofs.ReducedStarts.{entries_reduced, treated_reduced}
-use Rattle.word_model.proofs.Spans.{IsMultiple, IsSpanned, InSpan}
+use Rattle.word_model.proofs.Spans.{IsMultiple, InSpan}
 
 -- jobs other than pairs are settled by being treated
 abbrev TreatedUnlessPair : List Entry → Job → Type 0
@@ -128,53 +126,6 @@ module _ (A : Algebra) (ok : IsGAlgebra A) (G : List Polynomial) (elements : Eac
   pub span_within : IsWellFounded A.order → (f : Polynomial) → IsPolynomial A.p A.order f → InSpan A G f → (f ≡ []) ⊎ IsWithin A ok G f
   span_within well f f_is s = within A ok G all well f f_is (sum_weaker A.p (multiple_weight A G) (IsMultiple A G) (Fits A G) fits (λ φ. weigh φ f) s)
 
-  module _ (well : IsWellFounded A.order) (target : Polynomial → Option Target) (go : Polynomial → Reduced) (red : IsReduction A ok G target go)
-      (first : (t : ℕ × Monomial) (h : Polynomial) → target (t ∷ h) ≡ None → first_divisor G t.1 ≡ None) where
-    says : (h : Polynomial) → IsOf A ok h → Says A ok G polynomials target go red (λ m. Unit {0}) (λ x m less q. tt) h (go h)
-    says h h_is = reduction_says A ok G polynomials target go red (λ m. Unit {0}) (λ x m less q. tt) h h_is (Each-always (λ t. Unit {0}) (λ t. tt) h)
-
-    trace_span : (h : Polynomial) → IsOf A ok h → IsSpanned A G (trace_weight A G (go h).trace)
-    trace_span h h_is = record {
-      terms = terms_of (go h).trace;
-      each = Each-weaker _ _ (λ e k. (k.0.0, (k.0.1.low, k.0.1.high))) (terms_of (go h).trace) (says h h_is).terms;
-      value = λ φ. refl;
-    }
-
-    -- what is reduced to zero is in the span
-    pub zero_in_span : (h : Polynomial) → IsOf A ok h → (go h).rest ≡ [] → InSpan A G h
-    zero_in_span h h_is zero =
-        sum_same A.p (multiple_weight A G) (IsMultiple A G) (trace_weight A G (go h).trace) (λ φ. weigh φ h)
-        (λ φ. (says h h_is).value φ ∙ same_refl A.p _ _ (ap (λ f. trace_weight A G (go h).trace φ + weigh φ f) zero ∙ nothing (trace_weight A G (go h).trace φ)))
-        (trace_span h h_is)
-      where
-        nothing : (x : ℕ) → x + 0 ≡ x
-        nothing x = omega arith
-
-    -- what is in the span is reduced to zero, where no step is undefined
-    pub span_to_zero : (h : Polynomial) → IsOf A ok h → InSpan A G h → (go h).over ≡ false → (go h).rest ≡ []
-    span_to_zero h h_is s over =
-        let r : Polynomial = (go h).rest in
-        let rest_span : InSpan A G (go h).rest =
-        sum_same A.p (multiple_weight A G) (IsMultiple A G) (λ φ. weigh φ h + (A.p - 1) * trace_weight A G (go h).trace φ) (λ φ. weigh φ (go h).rest)
-        (λ φ.
-        same_move A.p (weigh φ h) (weigh φ (go h).rest) (trace_weight A G (go h).trace φ) (positive A ok)
-        ((says h h_is).value φ ∙ same_refl A.p _ _ (swap (trace_weight A G (go h).trace φ) (weigh φ (go h).rest))))
-        (sum_add A.p (multiple_weight A G) (IsMultiple A G) (λ φ. weigh φ h) (λ φ. (A.p - 1) * trace_weight A G (go h).trace φ) s
-        (sum_scale A.p (multiple_weight A G) (IsMultiple A G) (A.p - 1) (trace_weight A G (go h).trace) (trace_span h h_is))) in
-        ⊎_elim (λ zero. zero) (λ w. absurd (stuck (go h).rest (reduction_ends A ok G polynomials target go red h h_is over) w))
-        (span_within well r (says h h_is).sorted rest_span)
-      where
-        swap : (x y : ℕ) → x + y ≡ y + x
-        swap x y = omega arith
-
-        stuck : (r : Polynomial) → target r ≡ None → IsWithin A ok G r → ⊥
-        stuck [] none w = w.nonzero refl
-        stuck (t ∷ f) none w =
-            let no : lead_divides (element G w.i) t.1 ≡ false = first_divisor-none G t.1 (first t f none) w.i w.there.low w.there.high in
-            let yes : lead_divides (element G w.i) t.1 ≡ true = lead_divides-is (element G w.i) t.1 w.there.is.1 w.divides_it in
-            let both : true ≡ false = sym yes ∙ no in
-            cc
-
 -- ---- finished runs
 
 module _ (A : Algebra) (ok : IsGAlgebra A) (gens : List Polynomial) (sorted : Each (IsPolynomial A.p A.order) gens) (mode : Mode) (budget : ℕ) where
@@ -224,14 +175,14 @@ module _ (A : Algebra) (ok : IsGAlgebra A) (gens : List Polynomial) (sorted : Ea
             (sum_weaker A.p (multiple_weight A J.basis) (λ k. Fits A J.basis k × Unit {0}) (IsMultiple A J.basis) (λ k h. (h.0.0, (h.0.1.low, h.0.1.high))) (λ φ. weigh φ sum.start) sum.sum)
 
     -- each generator is reduced to zero by the basis
-    pub generator_reduced : Each (λ f. poly_degree f ≤ degree_limit) gens → (s : ℕ) → IsNumber gens s → IsReducedToZero A J.basis (element gens s)
+    pub generator_reduced : Each (λ f. poly_degree f ≤ degree_limit) gens → (s : ℕ) → IsNumber gens s → ReducesToZero A J.basis (element gens s)
     generator_reduced low s number = by (element gens s) refl
       where
-        by : (f : Polynomial) → element gens s ≡ f → IsReducedToZero A J.basis (element gens s)
-        by [] is = subst (IsReducedToZero A J.basis) (sym is) (zero_reduced A ok J.basis (Each-weaker _ _ (λ f e. e.0) J.basis told.elements))
+        by : (f : Polynomial) → element gens s ≡ f → ReducesToZero A J.basis (element gens s)
+        by [] is = subst (ReducesToZero A J.basis) (sym is) (zero_reduced A ok J.basis (Each-weaker _ _ (λ f e. e.0) J.basis told.elements))
         by (t ∷ f) is =
             let nonzero : element gens s ≢ [] = λ none. (let no : t ∷ f ≡ [] = sym is ∙ none in cc) in
-            let r : IsStartReduced A gens J.basis (Seed s) =
+            let r : StartReducesToZero A gens J.basis (Seed s) =
             treated_reduced A ok gens sorted low mode J.basis told.elements J.entries
             (entries_reduced A ok gens sorted low mode J.basis told.elements [] J.entries told.replay) (Seed s) (seed_treated s number nonzero) in
-            subst (IsReducedToZero A J.basis) (sym (start_of-seed A gens J.basis s r.0 r.1)) r.2
+            subst (ReducesToZero A J.basis) (sym (start_of-seed A gens J.basis s r.0 r.1)) r.2

@@ -10,7 +10,7 @@ use Rattle.word_model.specs.Conditions.{IsGAlgebra}
 use Rattle.word_model.specs.Products.{degree_limit}
 use Rattle.word_model.specs.Reduction.{leading_target, Reduced, reduce}
 use Rattle.word_model.specs.Machine.{IsElement}
-use Rattle.word_model.specs.Ideals.{IsReducedToZero, IsStartReduced, IsEntryReduced}
+use Rattle.word_model.specs.Ideals.{ReducesToZero, StartReducesToZero, EntryReducesToZero}
 use Rattle.word_model.specs.declared.records.Job.{Job}
 use Rattle.word_model.specs.declared.records.Mode.{Mode}
 use Rattle.word_model.specs.declared.records.TraceStep.{TraceStep}
@@ -33,12 +33,12 @@ module _ (A : Algebra) (ok : IsGAlgebra A) (gens : List Polynomial) (sorted : Ea
   polynomials H b = Each-begins H G b (IsOf A ok) (Each-weaker _ _ (λ f e. e.0) G elements)
 
   -- what is reduced to zero by a front is so by the whole
-  whole_reduced : (H : List Polynomial) → Begins H G → (h : Polynomial) → IsOf A ok h → IsReducedToZero A H h → IsReducedToZero A G h
+  whole_reduced : (H : List Polynomial) → Begins H G → (h : Polynomial) → IsOf A ok h → ReducesToZero A H h → ReducesToZero A G h
   whole_reduced H b h h_is reduced =
-      subst (λ G. IsReducedToZero A G h) b.1
+      subst (λ G. ReducesToZero A G h) b.1
       (reduced_longer A ok H b.0 (polynomials H b) (subst (Each (IsOf A ok)) (sym b.1) (Each-weaker _ _ (λ f e. e.0) G elements)) h h_is reduced)
 
-  zero_reduced : (H : List Polynomial) → Begins H G → (job : Job) (trace : List TraceStep) → IsTreatment A gens mode H job trace [] → IsStartReduced A gens G job
+  zero_reduced : (H : List Polynomial) → Begins H G → (job : Job) (trace : List TraceStep) → IsTreatment A gens mode H job trace [] → StartReducesToZero A gens G job
   zero_reduced H b job trace t = (
     t.start,
     start_begins A gens H G b job t.due.0.0 ∙ t.start_is,
@@ -47,7 +47,7 @@ module _ (A : Algebra) (ok : IsGAlgebra A) (gens : List Polynomial) (sorted : Ea
   )
 
   new_reduced : (H : List Polynomial) (r : Polynomial) → r ≢ [] → Begins (H ++ monic A ok r ∷ []) G → Begins H G → (job : Job) (trace : List TraceStep) → IsTreatment A gens mode H job trace r
-      → IsStartReduced A gens G job
+      → StartReducesToZero A gens G job
   new_reduced H r nonzero next b job trace t =
       let first : Each (IsOf A ok) H = polynomials H b in
       let h_is : IsOf A ok t.start = start_of-sorted A ok gens sorted H job t.start first t.due.0.0 t.start_is in
@@ -67,7 +67,7 @@ module _ (A : Algebra) (ok : IsGAlgebra A) (gens : List Polynomial) (sorted : Ea
       )
 
   -- the start of each entry's job, unless it was skipped
-  pub entries_reduced : (H : List Polynomial) (entries : List Entry) → IsReplay A gens mode H entries G → Each (IsEntryReduced A gens G) entries
+  pub entries_reduced : (H : List Polynomial) (entries : List Entry) → IsReplay A gens mode H entries G → Each (EntryReducesToZero A gens G) entries
   entries_reduced H [] replay = tt
   entries_reduced H (Skipped job k ∷ entries) replay = (tt, entries_reduced H entries replay)
   entries_reduced H (Zero job trace ∷ entries) replay = (
@@ -81,10 +81,10 @@ module _ (A : Algebra) (ok : IsGAlgebra A) (gens : List Polynomial) (sorted : Ea
   )
 
   -- and so that of each treated job
-  pub treated_reduced : (entries : List Entry) → Each (IsEntryReduced A gens G) entries → (job : Job) → Treats entries job → IsStartReduced A gens G job
+  pub treated_reduced : (entries : List Entry) → Each (EntryReducesToZero A gens G) entries → (job : Job) → Treats entries job → StartReducesToZero A gens G job
   treated_reduced [] h job t = absurd t
   treated_reduced (Skipped other k ∷ entries) h job t = treated_reduced entries h.1 job t
-  treated_reduced (Zero other trace ∷ entries) h job (inl is) = subst (IsStartReduced A gens G) is h.0
+  treated_reduced (Zero other trace ∷ entries) h job (inl is) = subst (StartReducesToZero A gens G) is h.0
   treated_reduced (Zero other trace ∷ entries) h job (inr t) = treated_reduced entries h.1 job t
-  treated_reduced (New other trace scale ∷ entries) h job (inl is) = subst (IsStartReduced A gens G) is h.0
+  treated_reduced (New other trace scale ∷ entries) h job (inl is) = subst (StartReducesToZero A gens G) is h.0
   treated_reduced (New other trace scale ∷ entries) h job (inr t) = treated_reduced entries h.1 job t

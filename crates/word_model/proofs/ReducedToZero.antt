@@ -13,7 +13,7 @@ use Rattle.word_model.specs.Conditions.{IsGAlgebra}
 use Rattle.word_model.specs.Products.{degree_limit}
 use Rattle.word_model.specs.Reduction.{element, lead_divides, first_divisor, quotient, multiple, is_within, target_at, leading_target, step_by, Undefined, Goes, next_step, Reduced, after_step, reduce}
 use Rattle.word_model.specs.Machine.{IsElement}
-use Rattle.word_model.specs.Ideals.{IsReducedToZero}
+use Rattle.word_model.specs.Ideals.{ReducesToZero}
 use Rattle.word_model.specs.declared.records.TraceStep.{TraceStep}
 use Rattle.word_model.proofs.NormalForms.{same_weights}
 use Rattle.word_model.proofs.LeastNumbers.{least_number-is, first_divisor-none}
@@ -46,14 +46,14 @@ no_divisor G t f e = by (first_divisor G t.1) refl e
 
 module _ (A : Algebra) (ok : IsGAlgebra A) where
   -- zero is reduced to zero
-  pub zero_reduced : (G : List Polynomial) → Each (IsOf A ok) G → IsReducedToZero A G []
+  pub zero_reduced : (G : List Polynomial) → Each (IsOf A ok) G → ReducesToZero A G []
   zero_reduced G elements =
       let is : reduce A G [] ≡ record { trace = []; rest = []; over = false } = reduce-next A ok G elements [] (record { canonical = tt; vars = tt }) in
       (ap (λ (r : Reduced). r.over) is, ap (λ (r : Reduced). r.rest) is)
 
-  pub reduced_longer : (G H : List Polynomial) → Each (IsOf A ok) G → Each (IsOf A ok) (G ++ H) → (h : Polynomial) → IsOf A ok h → IsReducedToZero A G h → IsReducedToZero A (G ++ H) h
+  pub reduced_longer : (G H : List Polynomial) → Each (IsOf A ok) G → Each (IsOf A ok) (G ++ H) → (h : Polynomial) → IsOf A ok h → ReducesToZero A G h → ReducesToZero A (G ++ H) h
   reduced_longer G H first all h h_is reduced =
-      let last : IsReducedToZero A (G ++ H) (reduce A G h).rest = subst (IsReducedToZero A (G ++ H)) (sym reduced.1) (zero_reduced (G ++ H) all) in
+      let last : ReducesToZero A (G ++ H) (reduce A G h).rest = subst (ReducesToZero A (G ++ H)) (sym reduced.1) (zero_reduced (G ++ H) all) in
       let whole : reduce A (G ++ H) h ≡ goes_on (reduce A G h) (reduce A (G ++ H) (reduce A G h).rest) = longer A ok G H first all h h_is in
       (ap (λ (r : Reduced). r.over) whole ∙ last.0, ap (λ (r : Reduced). r.rest) whole ∙ last.1)
 
@@ -122,24 +122,24 @@ module _ (A : Algebra) (ok : IsGAlgebra A) where
           before = λ x low high. ap (λ f. lead_divides f u.1) (element-append G (g ∷ []) x low (omega arith)) ∙ none x low (omega arith);
         })
 
-    rest_reduced : leading_target G (u ∷ f) ≡ None → poly_degree g ≤ degree_limit → Each (IsOf A ok) G' → IsReducedToZero A G' (u ∷ f)
+    rest_reduced : leading_target G (u ∷ f) ≡ None → poly_degree g ≤ degree_limit → Each (IsOf A ok) G' → ReducesToZero A G' (u ∷ f)
     rest_reduced stuck low all =
         let i : ℕ = suc (length G) in
         let s : (s : TraceStep) × (step_at A (u ∷ f) u i g ≡ Goes s []) = new_step low i in
         let next : next_step A G' (u ∷ f) (leading_target G' (u ∷ f)) ≡ Goes s.0 [] =
         ap (λ d. next_step A G' (u ∷ f) (target_at u d)) (finds_last stuck) ∙ ap (step_at A (u ∷ f) u i) (element-last G g) ∙ s.1 in
         let is : reduce A G' (u ∷ f) ≡ after_step (reduce A G') (u ∷ f) (Goes s.0 []) = reduce-next A ok G' all (u ∷ f) uf_is ∙ ap (after_step (reduce A G') (u ∷ f)) next in
-        let last : IsReducedToZero A G' [] = zero_reduced G' all in
+        let last : ReducesToZero A G' [] = zero_reduced G' all in
         (ap (λ (r : Reduced). r.over) is ∙ last.0, ap (λ (r : Reduced). r.rest) is ∙ last.1)
 
   -- a start that left a rest
   pub reduced_new : (G : List Polynomial) → Each (IsOf A ok) G → (h : Polynomial) → IsOf A ok h → (r : Polynomial) → r ≢ [] → IsOf A ok r → (reduce A G h).over ≡ false → (reduce A G h).rest ≡ r
-      → poly_degree (monic A ok r) ≤ degree_limit → Each (IsOf A ok) (G ++ monic A ok r ∷ []) → IsReducedToZero A (G ++ monic A ok r ∷ []) h
+      → poly_degree (monic A ok r) ≤ degree_limit → Each (IsOf A ok) (G ++ monic A ok r ∷ []) → ReducesToZero A (G ++ monic A ok r ∷ []) h
   reduced_new G first h h_is [] nonzero r_is over rest low all = absurd (nonzero refl)
   reduced_new G first h h_is (u ∷ f) nonzero r_is over rest low all =
       let G' : List Polynomial = G ++ monic A ok (u ∷ f) ∷ [] in
       let stuck : leading_target G (u ∷ f) ≡ None =
       subst (λ f. leading_target G f ≡ None) rest (reduction_ends A ok G first (leading_target G) (reduce A G) (leading_reduction A ok G first) h h_is over) in
-      let last : IsReducedToZero A G' (reduce A G h).rest = subst (IsReducedToZero A G') (sym rest) (rest_reduced G u f r_is stuck low all) in
+      let last : ReducesToZero A G' (reduce A G h).rest = subst (ReducesToZero A G') (sym rest) (rest_reduced G u f r_is stuck low all) in
       let whole : reduce A G' h ≡ goes_on (reduce A G h) (reduce A G' (reduce A G h).rest) = longer A ok G (monic A ok (u ∷ f) ∷ []) first all h h_is in
       (ap (λ (r : Reduced). r.over) whole ∙ last.0, ap (λ (r : Reduced). r.rest) whole ∙ last.1)

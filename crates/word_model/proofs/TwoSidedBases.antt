@@ -3,7 +3,6 @@
 use Rattle.std.proofs.Common.{◌≡◌, ◌≢◌, ℕ, ◌+◌, ◌≤◌, List, [], ◌∷◌, sym, subst}
 use Rattle.monomials.specs.Orders.{order_cmp}
 use Rattle.monomials.specs.Polynomials.{Polynomial, Each, HasVars, IsPolynomial}
-use Rattle.monomials.specs.WellFounded.{IsWellFounded}
 use Rattle.monomials.proofs.Weights.{weigh, weigh-poly_add}
 use Rattle.monomials.proofs.OrderLaws.{order_cmp_tied}
 use Rattle.monomials.proofs.Keys.{Each-weaker}
@@ -12,7 +11,7 @@ use Rattle.word_model.specs.Products.{product, variable_polynomial}
 use Rattle.word_model.specs.Conditions.{IsGAlgebra}
 use Rattle.word_model.specs.Reduction.{element}
 use Rattle.word_model.specs.Machine.{Journal, machine, IsElement}
-use Rattle.word_model.specs.Ideals.{InLeftIdeal, IsGroebnerBasis}
+use Rattle.word_model.specs.Ideals.{InLeftIdeal}
 use Rattle.word_model.specs.TwoSided.{TwoSidedMultiple, two_sided_product, two_sided_sum, IsTwoSidedMultiple, InTwoSidedIdeal}
 use Rattle.word_model.specs.declared.records.Job.TheVariants.{Right}
 use Rattle.word_model.specs.declared.records.Mode.TheVariants.{TwoSided}
@@ -29,7 +28,7 @@ use Rattle.word_model.proofs.Spans.{IsMultiple, InSpan, span_element, span_produ
 use Rattle.word_model.proofs.Combinations.{span_in_ideal, ideal_is, ideal_in_span}
 use Rattle.word_model.proofs.Making.{elements_in}
 use Rattle.word_model.proofs.FinishedBases.{settled_treated, told, run_elements, generator_span}
-use Rattle.word_model.proofs.Memberships.{basis_is}
+use Rattle.word_model.proofs.Deciding.{Spans}
 use Rattle.word_model.proofs.RightSpans.{IsRight, right_elements, right_all}
 use Rattle.word_model.proofs.TwoSidedSums.{IsTwoSided, two_sided_closed, ideal_is_two_sided, sum_in_ideal, span_two_sided}
 
@@ -51,7 +50,7 @@ module _ (A : Algebra) (ok : IsGAlgebra A) (gens : List Polynomial) (sorted : Ea
   pub elements_in_two_sided : Each (InTwoSidedIdeal A gens) J.basis
   elements_in_two_sided = Each-weaker _ _ (λ f h. sum_in_ideal A ok gens sorted f h) J.basis elements_two_sided
 
-  pub spanned_in_two_sided : (f : Polynomial) → IsPolynomial A.p A.order f → InSpan A J.basis f → InTwoSidedIdeal A gens f
+  spanned_in_two_sided : (f : Polynomial) → IsPolynomial A.p A.order f → InSpan A J.basis f → InTwoSidedIdeal A gens f
   spanned_in_two_sided f f_is s = span_two_sided A ok gens sorted J.basis elements_two_sided f f_is s
 
   module _ (end : J.outcome ≡ Finished) where
@@ -92,18 +91,8 @@ module _ (A : Algebra) (ok : IsGAlgebra A) (gens : List Polynomial) (sorted : Ea
         (sums_spanned xs h.1))
 
     -- the two-sided ideal of the generators is the span of the basis
-    pub two_sided_spanned : (f : Polynomial) → InTwoSidedIdeal A gens f → InSpan A J.basis f
+    two_sided_spanned : (f : Polynomial) → InTwoSidedIdeal A gens f → InSpan A J.basis f
     two_sided_spanned f h = subst (InSpan A J.basis) h.2 (sums_spanned h.0 h.1)
 
-    -- so it is the left ideal of the basis
-    pub two_sided_left : (f : Polynomial) → InTwoSidedIdeal A gens f → InLeftIdeal A J.basis f
-    two_sided_left f h = span_in_ideal A ok J.basis f (ideal_is_two_sided A ok gens sorted f h) (two_sided_spanned f h)
-
-    pub left_two_sided : (f : Polynomial) → InLeftIdeal A J.basis f → InTwoSidedIdeal A gens f
-    left_two_sided f h =
-        spanned_in_two_sided f (ideal_is A ok J.basis f h)
-        (ideal_in_span A ok J.basis J.basis basis_vars (each_number (InSpan A J.basis) J.basis (λ i n. span_element A ok J.basis basis_vars i n)) f h)
-
-    pub is_two_sided_basis : IsWellFounded A.order → IsGroebnerBasis A (InTwoSidedIdeal A gens) J.basis
-    is_two_sided_basis well =
-        basis_is A ok gens sorted TwoSided budget end well (InTwoSidedIdeal A gens) (ideal_is_two_sided A ok gens sorted) two_sided_spanned spanned_in_two_sided
+    pub two_sided_spans : Spans A J.basis (InTwoSidedIdeal A gens)
+    two_sided_spans = record { sorted = ideal_is_two_sided A ok gens sorted; spanned = two_sided_spanned; inside = spanned_in_two_sided }

@@ -4,3 +4,4 @@ pub mod Places
 pub mod WordSums
 pub mod Reordered
 pub mod Falling
+pub mod Limited

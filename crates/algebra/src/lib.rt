@@ -24,6 +24,8 @@ mod reordering;
 mod rewriting;
 mod word;
 
+pub use product::{DEGREE_LIMIT, in_reach};
+
 /// The relations x_j x_i = c_ij x_i x_j + d_ij, an item of each list for each pair i < j of the
 /// numbers of variables, in lexicographic order: (1, 2), (1, 3), .., (2, 3), ..
 #[derive(Drop)]

@@ -4,20 +4,22 @@ ghost use Rattle.std.specs.Prelude.{◌≡◌, ◌+◌, ◌<◌, ◌≤◌, true
 ghost use Rattle.monomials.specs.Monomials.{degree};
 ghost use Rattle.monomials.specs.Polynomials.{IsPolynomial, poly_degree};
 ghost use Rattle.gpoly.specs.Terms.{pair_of};
-ghost use Rattle.word_model.specs.Products.{product, variable_polynomial, in_reach};
+ghost use Rattle.word_model.specs.Products.{product, variable_polynomial, degree_limit, in_reach};
+ghost use Rattle.algebra.specs.Limited.{AnswersWithin};
 
 use crate::rewriting::push_between;
 use crate::{Algebra, ProductFault, word};
 use gpoly::{GPoly, Term};
 use std::alloc::{AllocError, Global};
 
-// The most that the degrees of the factors may add up to.
-const DEGREE_LIMIT: u32 = 4095;
+/// The most that the degrees of the factors of a product may add up to.
+pub const DEGREE_LIMIT: u32 = 4095;
 
-// Whether a factor is zero, or the degrees add up to at most the limit.
-fn in_reach(f: &GPoly, g: &GPoly) -> bool
+/// Whether the product is computed: a factor is zero, or the degrees add up to at most 4095. Takes
+/// no memory.
+pub fn in_reach(f: &GPoly, g: &GPoly) -> bool
     ensures value { result ≡ in_reach f.now g.now }
-    ensures degrees { result ≡ true → poly_degree f.now + poly_degree g.now ≤ 4095 }
+    ensures degrees { result ≡ true → poly_degree f.now + poly_degree g.now ≤ degree_limit }
 {
     let degree = f.degree() + g.degree();
     f.is_zero() || g.is_zero() || degree <= DEGREE_LIMIT
@@ -31,9 +33,7 @@ impl Algebra {
         requires g_sorted { IsPolynomial self.now.p self.now.order g.now }
         ensures value { IfOk result (λ r. r ≡ product self.now f.now g.now) }
         ensures sorted { IfOk result (λ r. IsPolynomial self.now.p self.now.order r) }
-        ensures within { OnOk result (in_reach f.now g.now ≡ true) }
-        ensures over { result ≡ Err ProductFault.DegreeOver → in_reach f.now g.now ≡ false }
-        ensures memory { result ≡ Err ProductFault.Memory → in_reach f.now g.now ≡ true }
+        ensures reach { AnswersWithin (in_reach f.now g.now) result }
     {
         if !in_reach(f, g) {
             return Err(ProductFault::DegreeOver);

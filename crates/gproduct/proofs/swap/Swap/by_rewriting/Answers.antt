@@ -1,8 +1,9 @@
-use Rattle.std.proofs.Common.{◌≡◌, ◌+◌, ◌<◌, ◌≤◌, ◌++◌, replicate, ap, ◌∙◌, arith, append-nil, Err}
+use Rattle.std.proofs.Common.{◌≡◌, ◌+◌, ◌<◌, ◌≤◌, ◌++◌, replicate, ap, subst, ◌∙◌, arith, append-nil}
 use Rattle.prime_field.specs.Modular.{IsPrime}
 use Rattle.monomials.specs.Monomials.{Monomial, degree}
 use Rattle.word_model.specs.Words.{Algebra, monomial_of, normal_form, sorted_word}
-use Rattle.word_model.specs.Products.{product}
+use Rattle.word_model.specs.Products.{product, in_reach}
+use Rattle.algebra.specs.Limited.{FailsWithin}
 use Rattle.gproduct.specs.Swaps.{IsSwap, swap_word}
 use Rattle.gproduct.specs.declared.swap.Swap.{Swap}
 use Rattle.gproduct.proofs.TwoPowers.{degree-powers, sorted_word-powers}
@@ -45,4 +46,4 @@ returns-in-Ok c =
 pub unreachable-requires : goal.unreachable-requires
 unreachable-requires c =
     alone_in_reach c.in_ok-high.high c.in_ok-low.low (high c.args.alg.now c.args.self c.requires) (low c.args.alg.now c.args.self c.requires)
-    c.in_ok-high.ensures.value c.in_ok-low.ensures.value (small c.args.alg.now c.args.self c.requires) (c.in-Err-DegreeOver.ensures.over (ap Err c.in-Err-DegreeOver.field-0-is))
+    c.in_ok-high.ensures.value c.in_ok-low.ensures.value (small c.args.alg.now c.args.self c.requires) (subst (FailsWithin (in_reach c.in_ok-high.high c.in_ok-low.low)) c.in-Err-DegreeOver.field-0-is c.in-Err-DegreeOver.ensures.reach)

@@ -180,7 +180,7 @@ module _ (A : Algebra) (ok : IsGAlgebra A) (gens : List Polynomial) (sorted : Ea
   seeds_from-mode Left s ((t ∷ f) ∷ H) = (tt, seeds_from-mode Left (suc s) H)
 
   with_element-run : (s : State) (job : Job) (r : Reduced) → IsRun s → IsQueued s job → start_of A gens s.basis job ≢ None → Each (IsStep A (length s.basis)) r.trace
-      → IsPolynomial A.p A.order r.rest → r.rest ≢ [] → IsRun (with_element A mode s job r)
+      → IsPolynomial A.p A.order r.rest → r.rest ≢ [] → IsRun (with_element A gens mode s job r)
   with_element-run s job r is job_is computed steps rest_is nonzero =
       let lead : NonZero A.p (leading_coefficient r.rest) = leading_coefficient-nonzero A r.rest rest_is.canonical nonzero in
       let scale : ℕ = inverse A.p (leading_coefficient r.rest) in
@@ -206,13 +206,13 @@ module _ (A : Algebra) (ok : IsGAlgebra A) (gens : List Polynomial) (sorted : Ea
       }
 
   turn_of_rest-run : (s : State) (job : Job) (r : Reduced) → IsRun s → IsQueued s job → start_of A gens s.basis job ≢ None → Each (IsStep A (length s.basis)) r.trace
-      → IsPolynomial A.p A.order r.rest → AfterTurn (turn_of_rest A mode s job r)
+      → IsPolynomial A.p A.order r.rest → AfterTurn (turn_of_rest A gens mode s job r)
   turn_of_rest-run s job r is job_is computed steps rest_is = by r.over r.rest (nat_le most_elements (length s.basis)) refl
     where
       by : (over : Bool) (rest : Polynomial) (full : Bool) → r.rest ≡ rest
           → AfterTurn (if over then Over DegreeOver else elim rest [
             | [] ↦ On (with_entry s job (Zero job r.trace))
-            | t ∷ f ↦ if full then Over BasisFull else On (with_element A mode s job r)
+            | t ∷ f ↦ if full then Over BasisFull else On (with_element A gens mode s job r)
           ])
       by true rest full e = tt
       by false [] full e =
@@ -221,7 +221,7 @@ module _ (A : Algebra) (ok : IsGAlgebra A) (gens : List Polynomial) (sorted : Ea
       by false (t ∷ f) false e = with_element-run s job r is job_is computed steps rest_is (λ no. (let none : t ∷ f ≡ [] = sym e ∙ no in cc))
 
   turn_of_start-run : (s : State) (job : Job) (h : Option Polynomial) → IsState A gens s → IsRun s → IsQueued s job → start_of A gens s.basis job ≡ h
-      → AfterTurn (turn_of_start A mode s job h)
+      → AfterTurn (turn_of_start A gens mode s job h)
   turn_of_start-run s job None state is job_is e = tt
   turn_of_start-run s job (Some h) state is job_is e =
       let elements : Each (IsPolynomial A.p A.order) s.basis = Each-weaker (IsElement A) (IsPolynomial A.p A.order) (λ f e. e.0) s.basis state.elements in
@@ -252,17 +252,17 @@ module _ (A : Algebra) (ok : IsGAlgebra A) (gens : List Polynomial) (sorted : Ea
       by : (queue : List Job) → s.queue ≡ queue → (spent : Bool) → AfterTurn (elim queue [
         | [] ↦ Over Finished
         | first ∷ queue ↦ if spent then Over BudgetSpent
-            else (let job : Job = least_job A gens s.basis first queue in turn_of_job A gens mode s job (chain_witness s.basis s.queue job))
+            else (let job : Job = least_job A gens s.basis s.sugars first queue in turn_of_job A gens mode s job (chain_witness s.basis s.queue job))
       ])
       by [] e spent = tt
       by (first ∷ queue) e true = tt
       by (first ∷ queue) e false =
           let jobs : Each (IsTreated gens s.basis A.order.vars) (first ∷ queue) = subst (Each (IsTreated gens s.basis A.order.vars)) e state.jobs in
           let of_mode : Each (IsOfMode mode) (first ∷ queue) = subst (Each (IsOfMode mode)) e is.of_mode in
-          let job : Job = least_job A gens s.basis first queue in
+          let job : Job = least_job A gens s.basis s.sugars first queue in
           turn_of_job-run s job (chain_witness s.basis s.queue job) state is (
-            least_job-one (IsTreated gens s.basis A.order.vars) A gens s.basis first queue jobs.0 jobs.1,
-            least_job-one (IsOfMode mode) A gens s.basis first queue of_mode.0 of_mode.1,
+            least_job-one (IsTreated gens s.basis A.order.vars) A gens s.basis s.sugars first queue jobs.0 jobs.1,
+            least_job-one (IsOfMode mode) A gens s.basis s.sugars first queue of_mode.0 of_mode.1,
           ) refl
 
   -- ---- journals

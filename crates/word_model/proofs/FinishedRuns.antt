@@ -72,7 +72,7 @@ module _ (A : Algebra) (ok : IsGAlgebra A) (gens : List Polynomial) (sorted : Ea
     }
 
     with_element-next : (h : Polynomial) → start_of A gens s.basis job ≡ Some h → (reduce A s.basis h).over ≡ false → (reduce A s.basis h).rest ≢ []
-        → IsNext (with_element A mode s job (reduce A s.basis h))
+        → IsNext (with_element A gens mode s job (reduce A s.basis h))
     with_element-next h e over nonzero =
         let r : Polynomial = (reduce A s.basis h).rest in
         let scale : ℕ = inverse A.p (leading_coefficient (reduce A s.basis h).rest) in
@@ -88,14 +88,14 @@ module _ (A : Algebra) (ok : IsGAlgebra A) (gens : List Polynomial) (sorted : Ea
           due = element_due A gens mode s job g entry run (inl refl);
         }
 
-    turn_of_start-next : (h : Option Polynomial) → start_of A gens s.basis job ≡ h → AfterTurn s (turn_of_start A mode s job h)
+    turn_of_start-next : (h : Option Polynomial) → start_of A gens s.basis job ≡ h → AfterTurn s (turn_of_start A gens mode s job h)
     turn_of_start-next None e = λ no. cc
     turn_of_start-next (Some h) e = by (reduce A s.basis h).over (reduce A s.basis h).rest (nat_le most_elements (length s.basis)) refl refl
       where
         by : (over : Bool) (rest : Polynomial) (full : Bool) → (reduce A s.basis h).over ≡ over → (reduce A s.basis h).rest ≡ rest
             → AfterTurn s (if over then Over DegreeOver else elim rest [
               | [] ↦ On (with_entry s job (Zero job (reduce A s.basis h).trace))
-              | t ∷ f ↦ if full then Over BasisFull else On (with_element A mode s job (reduce A s.basis h))
+              | t ∷ f ↦ if full then Over BasisFull else On (with_element A gens mode s job (reduce A s.basis h))
             ])
         by true rest full o r = λ no. cc
         by false [] full o r =
@@ -115,17 +115,17 @@ module _ (A : Algebra) (ok : IsGAlgebra A) (gens : List Polynomial) (sorted : Ea
       by : (queue : List Job) → s.queue ≡ queue → (spent : Bool) → AfterTurn s (elim queue [
         | [] ↦ Over Finished
         | first ∷ queue ↦ if spent then Over BudgetSpent
-            else (let job : Job = least_job A gens s.basis first queue in turn_of_job A gens mode s job (chain_witness s.basis s.queue job))
+            else (let job : Job = least_job A gens s.basis s.sugars first queue in turn_of_job A gens mode s job (chain_witness s.basis s.queue job))
       ])
       by [] e spent = λ o. e
       by (first ∷ queue) e true = λ no. cc
       by (first ∷ queue) e false =
           let jobs : Each (IsTreated gens s.basis A.order.vars) (first ∷ queue) = subst (Each (IsTreated gens s.basis A.order.vars)) e run.state.jobs in
           let of_mode : Each (IsOfMode mode) (first ∷ queue) = subst (Each (IsOfMode mode)) e run.of_mode in
-          let job : Job = least_job A gens s.basis first queue in
+          let job : Job = least_job A gens s.basis s.sugars first queue in
           turn_of_job-next s job run (
-            least_job-one (IsTreated gens s.basis A.order.vars) A gens s.basis first queue jobs.0 jobs.1,
-            least_job-one (IsOfMode mode) A gens s.basis first queue of_mode.0 of_mode.1,
+            least_job-one (IsTreated gens s.basis A.order.vars) A gens s.basis s.sugars first queue jobs.0 jobs.1,
+            least_job-one (IsOfMode mode) A gens s.basis s.sugars first queue of_mode.0 of_mode.1,
           ) (chain_witness s.basis s.queue job) refl
 
   -- ---- journals

@@ -1,13 +1,14 @@
 -- Worked runs of the machine, computed from the definitions.
 use Rattle.std.proofs.Common.{◌≡◌, ℕ, List, [], ◌∷◌, pos, Some, refl}
 use Rattle.prime_field.specs.Modular.{inverse}
+use Rattle.monomials.specs.Monomials.{Monomial}
 use Rattle.monomials.specs.Polynomials.{Polynomial}
 use Rattle.monomials.specs.Blocks.{dp_rows}
 use Rattle.word_model.specs.Words.{Algebra, normal_form, normal_form_within}
 use Rattle.word_model.specs.Products.{product}
 use Rattle.word_model.specs.Scripts.{two_variables}
 use Rattle.word_model.specs.Reduction.{steps_within, reduce, reduce_tail}
-use Rattle.word_model.specs.Jobs.{start_of, chain_witness}
+use Rattle.word_model.specs.Jobs.{start_of, chain_witness, job_sugar, element_sugar}
 use Rattle.word_model.specs.Finished.{finished, kept}
 use Rattle.word_model.specs.Machine.{step, run_within, machine}
 use Rattle.word_model.specs.Cofactors.{basis_rows, cofactor_rows, row_value}
@@ -101,8 +102,8 @@ heisenberg_left : machine heisenberg heisenberg_generators Left 100
           New (Seed 3) [] 1 ∷ New (Seed 2) [] 1 ∷ New (Seed 4) [] 1 ∷ New (Seed 1) [] 1
           ∷ Zero (Pair 1 2) (minus_one_times 2 ∷ []) ∷ Zero (Pair 1 3) (minus_one_times 3 ∷ []) ∷ Zero (Pair 1 4) (minus_one_times 4 ∷ [])
           ∷ New (Pair 3 4) (record { coef = 32002; mono = 0 ∷ 0 ∷ 1 ∷ 0 ∷ 0 ∷ []; index = 1 } ∷ []) 32002
-          ∷ Zero (Pair 1 5) (minus_one_times 5 ∷ []) ∷ Zero (Pair 3 5) [] ∷ Zero (Pair 4 5) [] ∷ Zero (Pair 2 5) []
-          ∷ Skipped (Pair 2 3) 5 ∷ Skipped (Pair 2 4) 5 ∷ [];
+          ∷ Zero (Pair 1 5) (minus_one_times 5 ∷ []) ∷ Zero (Pair 3 5) [] ∷ Zero (Pair 4 5) [] ∷ Zero (Pair 2 3) []
+          ∷ Zero (Pair 2 4) [] ∷ Zero (Pair 2 5) [] ∷ [];
       basis =
           ((1, 0 ∷ 0 ∷ 0 ∷ 0 ∷ 1 ∷ []) ∷ (32002, 0 ∷ 0 ∷ 0 ∷ 0 ∷ 0 ∷ []) ∷ []) ∷ ((1, 0 ∷ 1 ∷ 0 ∷ 1 ∷ 0 ∷ []) ∷ [])
           ∷ ((1, 0 ∷ 0 ∷ 2 ∷ 0 ∷ 0 ∷ []) ∷ []) ∷ ((1, 1 ∷ 0 ∷ 1 ∷ 0 ∷ 0 ∷ []) ∷ []) ∷ ((1, 0 ∷ 0 ∷ 1 ∷ 0 ∷ 0 ∷ []) ∷ []) ∷ [];
@@ -117,12 +118,68 @@ weyl_two_sided : machine (two_variables 7 1 1) (((1, 1 ∷ 0 ∷ []) ∷ []) ∷
     ≡ record {
       entries =
           New (Seed 1) [] 1 ∷ New (Right 1 2) (record { coef = 1; mono = 0 ∷ 1 ∷ []; index = 1 } ∷ []) 6
-          ∷ Zero (Right 2 2) (record { coef = 1; mono = 0 ∷ 1 ∷ []; index = 2 } ∷ []) ∷ [];
+          ∷ Zero (Right 1 1) (record { coef = 1; mono = 1 ∷ 0 ∷ []; index = 1 } ∷ []) ∷ [];
       basis = ((1, 1 ∷ 0 ∷ []) ∷ []) ∷ ((1, 0 ∷ 0 ∷ []) ∷ []) ∷ [];
       outcome = BudgetSpent;
     }
 unfolding machine run_within step chain_witness start_of reduce steps_within product normal_form normal_form_within inverse
 weyl_two_sided = refl
+
+-- ---- the order of keys, in one run: x y + x z, x y, x^2 + x y and x y z in commuting variables
+
+-- the step of number c times m times the element of number i
+abbrev step_of : ℕ → Monomial → ℕ → TraceStep
+step_of c m i = record { coef = c; mono = m; index = i }
+
+-- Of seeds of equal monomials the first comes first, and the third element's tail is left alone. Then x z^2 comes before
+-- x y z, where the seed comes first, then the pair, then the products of the first element and of the second, though it
+-- is times an earlier variable.
+strategy : machine three_commuting
+    (((1, 1 ∷ 1 ∷ 0 ∷ []) ∷ (1, 1 ∷ 0 ∷ 1 ∷ []) ∷ []) ∷ ((1, 1 ∷ 1 ∷ 0 ∷ []) ∷ []) ∷ ((1, 2 ∷ 0 ∷ 0 ∷ []) ∷ (1, 1 ∷ 1 ∷ 0 ∷ []) ∷ []) ∷ ((1, 1 ∷ 1 ∷ 1 ∷ []) ∷ []) ∷ []) TwoSided 8
+    ≡ record {
+      entries =
+          New (Seed 1) [] 1 ∷ New (Seed 2) (step_of 1 (0 ∷ 0 ∷ 0 ∷ []) 1 ∷ []) 6 ∷ New (Seed 3) [] 1
+          ∷ Zero (Right 2 3) (step_of 1 (0 ∷ 0 ∷ 1 ∷ []) 2 ∷ [])
+          ∷ Zero (Seed 4) (step_of 1 (0 ∷ 0 ∷ 1 ∷ []) 1 ∷ step_of 6 (0 ∷ 0 ∷ 1 ∷ []) 2 ∷ [])
+          ∷ Zero (Pair 1 2) (step_of 1 (0 ∷ 0 ∷ 1 ∷ []) 2 ∷ [])
+          ∷ Zero (Right 1 3) (step_of 1 (0 ∷ 0 ∷ 1 ∷ []) 1 ∷ [])
+          ∷ Zero (Right 2 2) (step_of 1 (0 ∷ 0 ∷ 1 ∷ []) 1 ∷ step_of 6 (0 ∷ 0 ∷ 1 ∷ []) 2 ∷ []) ∷ [];
+      basis =
+          ((1, 1 ∷ 1 ∷ 0 ∷ []) ∷ (1, 1 ∷ 0 ∷ 1 ∷ []) ∷ []) ∷ ((1, 1 ∷ 0 ∷ 1 ∷ []) ∷ []) ∷ ((1, 2 ∷ 0 ∷ 0 ∷ []) ∷ (1, 1 ∷ 1 ∷ 0 ∷ []) ∷ []) ∷ [];
+      outcome = BudgetSpent;
+    }
+unfolding machine run_within step chain_witness start_of reduce steps_within product normal_form normal_form_within inverse
+strategy = refl
+
+-- ---- sugars of the Heisenberg run
+
+-- The sugars of its elements are 1, 2, 2, 2 and 3: the last has the leading monomial a, and its job has the lcm x a^2.
+abbrev heisenberg_basis : List Polynomial
+heisenberg_basis =
+    ((1, 0 ∷ 0 ∷ 0 ∷ 0 ∷ 1 ∷ []) ∷ (32002, 0 ∷ 0 ∷ 0 ∷ 0 ∷ 0 ∷ []) ∷ []) ∷ ((1, 0 ∷ 1 ∷ 0 ∷ 1 ∷ 0 ∷ []) ∷ [])
+    ∷ ((1, 0 ∷ 0 ∷ 2 ∷ 0 ∷ 0 ∷ []) ∷ []) ∷ ((1, 1 ∷ 0 ∷ 1 ∷ 0 ∷ 0 ∷ []) ∷ []) ∷ ((1, 0 ∷ 0 ∷ 1 ∷ 0 ∷ 0 ∷ []) ∷ []) ∷ []
+
+seed_sugar : job_sugar heisenberg_generators [] [] (Seed 3) ≡ 1
+seed_sugar = refl
+
+last_job_sugar : job_sugar heisenberg_generators heisenberg_basis (1 ∷ 2 ∷ 2 ∷ 2 ∷ []) (Pair 3 4) ≡ 3
+last_job_sugar = refl
+
+last_sugar : element_sugar (1 ∷ 2 ∷ 2 ∷ 2 ∷ []) 3 (step_of 32002 (0 ∷ 0 ∷ 1 ∷ 0 ∷ 0 ∷ []) 1 ∷ []) ≡ 3
+last_sugar = refl
+
+-- a step that reaches higher than the job
+higher_sugar : element_sugar (1 ∷ 2 ∷ 2 ∷ 2 ∷ []) 3 (step_of 1 (0 ∷ 0 ∷ 3 ∷ 0 ∷ 0 ∷ []) 2 ∷ step_of 1 (0 ∷ 0 ∷ 1 ∷ 0 ∷ 0 ∷ []) 1 ∷ []) ≡ 5
+higher_sugar = refl
+
+pair_sugar : job_sugar heisenberg_generators heisenberg_basis (1 ∷ 2 ∷ 2 ∷ 2 ∷ 3 ∷ []) (Pair 2 5) ≡ 5
+pair_sugar = refl
+
+lower_pair_sugar : job_sugar heisenberg_generators heisenberg_basis (1 ∷ 2 ∷ 2 ∷ 2 ∷ 3 ∷ []) (Pair 1 5) ≡ 4
+lower_pair_sugar = refl
+
+right_sugar : job_sugar heisenberg_generators heisenberg_basis (1 ∷ 2 ∷ 2 ∷ 2 ∷ 3 ∷ []) (Right 5 1) ≡ 4
+right_sugar = refl
 
 -- ---- finished lists
 

@@ -4,23 +4,27 @@ use Rattle.std.proofs.Common.{is_lt, filter}
 use lib.ListN.{get_or-append}
 use Rattle.std.proofs.Math.Nat.{mod-eq_of_lt}
 use Rattle.std.proofs.lemmas.Bool.Decides.{nat_tests}
-use Rattle.monomials.specs.Polynomials.{Polynomial, Each, IsPolynomial, cons_nonzero, poly_scale, poly_sub}
+use Rattle.monomials.specs.Monomials.{degree}
+use Rattle.monomials.specs.Polynomials.{Polynomial, Each, IsPolynomial, poly_degree, cons_nonzero, poly_scale, poly_sub}
 use Rattle.monomials.specs.Orders.{order_cmp}
 use Rattle.monomials.specs.Leading.{leading_coefficient}
 use Rattle.monomials.proofs.Modulo.{Same}
+use Rattle.monomials.proofs.Keys.{EachKey-poly_scale}
 use Rattle.monomials.proofs.Operations.{IsPolynomial-poly_add, IsPolynomial-poly_scale}
 use Rattle.prime_field.specs.Modular.{inverse}
 use Rattle.word_model.specs.Words.{Algebra}
 use Rattle.word_model.specs.Conditions.{IsGAlgebra, NonZero}
 use Rattle.word_model.specs.Products.{product, in_reach, variable_polynomial}
 use Rattle.word_model.specs.Reduction.{element, Reduced, reduce}
-use Rattle.word_model.specs.Jobs.{IsJob, NamesNonzero, start_of, s_polynomial, pair_within, without, same_job, least_job, key_cmp, chain_witness}
+use Rattle.word_model.specs.Jobs.{IsJob, NamesNonzero, start_of, s_polynomial, pair_within, without, same_job, job_sugar, element_sugar, least_job, key_cmp, chain_witness}
 use Rattle.word_model.specs.Machine.{State, Turn, On, Over, step, seeds_from, first_state, pairs_with, rights_of, jobs_of, with_entry, with_element, turn_of_rest, turn_of_start, turn_of_job, most_elements, after_turn, run_within, machine, IsElement, IsState}
+use Rattle.word_model.proofs.Degrees.{HasDegrees-poly_degree, poly_degree-le}
 use Rattle.word_model.proofs.NormalForms.{product_is_polynomial}
 use Rattle.word_model.proofs.LeastNumbers.{Each-element}
 use Rattle.word_model.proofs.Divisions.{inverse-is}
 use Rattle.word_model.proofs.Multiples.{leading_coefficient-nonzero}
 use Rattle.word_model.proofs.Reductions.{reduce-sorted}
+use Rattle.word_model.proofs.Sugars.{AreSugars-append, start_of-sugar, reduce-sugar}
 use Rattle.word_model.specs.declared.records.Job.{Job}
 use Rattle.word_model.specs.declared.records.Job.TheVariants.{Seed, Pair, Right}
 use Rattle.word_model.specs.declared.records.Mode.{Mode}
@@ -51,10 +55,11 @@ Each-filter P test (x ∷ xs) h = by (test x) (Each-filter P test xs h.1)
     by false ih = ih
 
 -- the job of the least key is one of the jobs
-pub least_job-one : (P : Job → Type 0) (A : Algebra) (gens G : List Polynomial) (job : Job) (queue : List Job) → P job → Each P queue → P (least_job A gens G job queue)
-least_job-one P A gens G job [] h k = h
-least_job-one P A gens G job (other ∷ queue) h k =
-    least_job-one P A gens G (if is_lt (key_cmp A gens G other job) then other else job) queue (by (is_lt (key_cmp A gens G other job))) k.1
+pub least_job-one : (P : Job → Type 0) (A : Algebra) (gens G : List Polynomial) (sugars : List ℕ) (job : Job) (queue : List Job) → P job → Each P queue
+    → P (least_job A gens G sugars job queue)
+least_job-one P A gens G sugars job [] h k = h
+least_job-one P A gens G sugars job (other ∷ queue) h k =
+    least_job-one P A gens G sugars (if is_lt (key_cmp A gens G sugars other job) then other else job) queue (by (is_lt (key_cmp A gens G sugars other job))) k.1
   where
     by : (b : Bool) → P (if b then other else job)
     by true = k.0
@@ -201,6 +206,7 @@ module _ (A : Algebra) (ok : IsGAlgebra A) (gens : List Polynomial) (sorted : Ea
   first_state-is = record {
     elements = tt;
     few = omega arith;
+    sugars = tt;
     jobs = seeds_from-treated gens A.order.vars 1 gens (λ k below. (omega arith, at_start k)) (omega arith);
   }
 
@@ -209,6 +215,7 @@ module _ (A : Algebra) (ok : IsGAlgebra A) (gens : List Polynomial) (sorted : Ea
   with_entry-is s job entry is = record {
     elements = is.elements;
     few = is.few;
+    sugars = is.sugars;
     jobs = Each-filter (IsTreated gens s.basis A.order.vars) (λ other. not (same_job job other)) s.queue is.jobs;
   }
 
@@ -226,15 +233,28 @@ module _ (A : Algebra) (ok : IsGAlgebra A) (gens : List Polynomial) (sorted : Ea
       turn : (a b : ℕ) → a * b ≡ b * a
       turn a b = omega arith
 
+  -- no multiple by a number has a greater degree
+  scale_degree : (k : ℕ) (f : Polynomial) → poly_degree (poly_scale A.p k f) ≤ poly_degree f
+  scale_degree k f =
+      poly_degree-le (poly_scale A.p k f) (poly_degree f)
+      (EachKey-poly_scale A.p (λ m. degree m ≤ poly_degree f) k f (HasDegrees-poly_degree f (poly_degree f) (le_refl (poly_degree f))))
+
+  -- the rest has no degree above the sugar that its element gets
+  abbrev pub IsSugared : State → Job → Reduced → Type 0
+  IsSugared s job r = poly_degree r.rest ≤ element_sugar s.sugars (job_sugar gens s.basis s.sugars job) r.trace
+
   -- a new element
-  with_element-is : (mode : Mode) (s : State) (job : Job) (r : Reduced) → IsState A gens s → IsPolynomial A.p A.order r.rest → r.rest ≢ []
-      → length s.basis < most_elements → IsState A gens (with_element A mode s job r)
-  with_element-is mode s job r is rest_is nonzero room =
+  with_element-is : (mode : Mode) (s : State) (job : Job) (r : Reduced) → IsState A gens s → IsPolynomial A.p A.order r.rest → IsSugared s job r → r.rest ≢ []
+      → length s.basis < most_elements → IsState A gens (with_element A gens mode s job r)
+  with_element-is mode s job r is rest_is sugared nonzero room =
       let g : Polynomial = poly_scale A.p (inverse A.p (leading_coefficient r.rest)) r.rest in
       let element_is : IsElement A g = monic-is r.rest rest_is nonzero in
       record {
         elements = Each-append (IsElement A) s.basis (g ∷ []) is.elements (element_is, tt);
         few = omega (arith, length-append s.basis (g ∷ []));
+        sugars =
+            AreSugars-append s.basis s.sugars g (element_sugar s.sugars (job_sugar gens s.basis s.sugars job) r.trace) is.sugars
+            (omega (arith, scale_degree (inverse A.p (leading_coefficient r.rest)) r.rest, sugared));
         jobs =
             Each-append (IsTreated gens (s.basis ++ g ∷ []) A.order.vars) (without job s.queue) (jobs_of mode A.order.vars (suc (length s.basis)))
             (Each-weaker (IsTreated gens s.basis A.order.vars) (IsTreated gens (s.basis ++ g ∷ []) A.order.vars) (IsTreated-longer gens s.basis g A.order.vars) (without job s.queue)
@@ -247,30 +267,35 @@ module _ (A : Algebra) (ok : IsGAlgebra A) (gens : List Polynomial) (sorted : Ea
   IsTurn (On s) = IsState A gens s
   IsTurn (Over outcome) = Unit {0}
 
-  turn_of_rest-is : (mode : Mode) (s : State) (job : Job) (r : Reduced) → IsState A gens s → IsPolynomial A.p A.order r.rest → IsTurn (turn_of_rest A mode s job r)
-  turn_of_rest-is mode s job r is rest_is = by r.over r.rest (nat_le most_elements (length s.basis)) refl refl
+  turn_of_rest-is : (mode : Mode) (s : State) (job : Job) (r : Reduced) → IsState A gens s → IsPolynomial A.p A.order r.rest → IsSugared s job r → IsTurn (turn_of_rest A gens mode s job r)
+  turn_of_rest-is mode s job r is rest_is sugared = by r.over r.rest (nat_le most_elements (length s.basis)) refl refl
     where
       by : (over : Bool) (rest : Polynomial) (full : Bool) → r.rest ≡ rest → nat_le most_elements (length s.basis) ≡ full
           → IsTurn (if over then Over DegreeOver else elim rest [
             | [] ↦ On (with_entry s job (Zero job r.trace))
-            | t ∷ f ↦ if full then Over BasisFull else On (with_element A mode s job r)
+            | t ∷ f ↦ if full then Over BasisFull else On (with_element A gens mode s job r)
           ])
       by true rest full e room = tt
       by false [] full e room = with_entry-is s job (Zero job r.trace) is
       by false (t ∷ f) true e room = tt
-      by false (t ∷ f) false e room = with_element-is mode s job r is rest_is (λ no. (let none : t ∷ f ≡ [] = sym e ∙ no in cc)) (grind (arith, nat_tests, room))
+      by false (t ∷ f) false e room = with_element-is mode s job r is rest_is sugared (λ no. (let none : t ∷ f ≡ [] = sym e ∙ no in cc)) (grind (arith, nat_tests, room))
 
-  turn_of_start-is : (mode : Mode) (s : State) (job : Job) (h : Option Polynomial) → IsState A gens s → ((f : Polynomial) → h ≡ Some f → IsPolynomial A.p A.order f) → IsTurn (turn_of_start A mode s job h)
+  turn_of_start-is : (mode : Mode) (s : State) (job : Job) (h : Option Polynomial) → IsState A gens s
+      → ((f : Polynomial) → h ≡ Some f → IsPolynomial A.p A.order f × (poly_degree f ≤ job_sugar gens s.basis s.sugars job)) → IsTurn (turn_of_start A gens mode s job h)
   turn_of_start-is mode s job None is h_is = tt
   turn_of_start-is mode s job (Some h) is h_is =
-      turn_of_rest-is mode s job (reduce A s.basis h) is
-      (reduce-sorted A ok s.basis (Each-weaker (IsElement A) (IsPolynomial A.p A.order) (λ f e. e.0) s.basis is.elements) h (h_is h refl))
+      let elements : Each (IsPolynomial A.p A.order) s.basis = Each-weaker (IsElement A) (IsPolynomial A.p A.order) (λ f e. e.0) s.basis is.elements in
+      turn_of_rest-is mode s job (reduce A s.basis h) is (reduce-sorted A ok s.basis elements h (h_is h refl).0)
+      (reduce-sugar A ok s.basis elements s.sugars is.sugars h (job_sugar gens s.basis s.sugars job) (h_is h refl).0 (h_is h refl).1)
 
   turn_of_job-is : (mode : Mode) (s : State) (job : Job) (witness : Option ℕ) → IsState A gens s → IsTreated gens s.basis A.order.vars job → IsTurn (turn_of_job A gens mode s job witness)
   turn_of_job-is mode s job (Some k) is job_is = with_entry-is s job _ is
   turn_of_job-is mode s job None is job_is =
       turn_of_start-is mode s job (start_of A gens s.basis job) is
-      (λ f e. start_of-sorted s.basis job f (Each-weaker (IsElement A) (IsPolynomial A.p A.order) (λ f e. e.0) s.basis is.elements) job_is.0 e)
+      (λ f e. (
+        start_of-sorted s.basis job f (Each-weaker (IsElement A) (IsPolynomial A.p A.order) (λ f e. e.0) s.basis is.elements) job_is.0 e,
+        start_of-sugar A ok gens s.basis is.elements s.sugars is.sugars job job_is.0 f e,
+      ))
 
   step-is : (mode : Mode) (budget : ℕ) (s : State) → IsState A gens s → IsTurn (step A gens mode budget s)
   unfolding step
@@ -279,15 +304,15 @@ module _ (A : Algebra) (ok : IsGAlgebra A) (gens : List Polynomial) (sorted : Ea
       by : (queue : List Job) → s.queue ≡ queue → (spent : Bool) → IsTurn (elim queue [
         | [] ↦ Over Finished
         | first ∷ queue ↦ if spent then Over BudgetSpent
-            else (let job : Job = least_job A gens s.basis first queue in turn_of_job A gens mode s job (chain_witness s.basis s.queue job))
+            else (let job : Job = least_job A gens s.basis s.sugars first queue in turn_of_job A gens mode s job (chain_witness s.basis s.queue job))
       ])
       by [] e spent = tt
       by (first ∷ queue) e true = tt
       by (first ∷ queue) e false =
           let jobs : Each (IsTreated gens s.basis A.order.vars) (first ∷ queue) = subst (Each (IsTreated gens s.basis A.order.vars)) e is.jobs in
-          let job : Job = least_job A gens s.basis first queue in
+          let job : Job = least_job A gens s.basis s.sugars first queue in
           turn_of_job-is mode s job (chain_witness s.basis s.queue job) is
-          (least_job-one (IsTreated gens s.basis A.order.vars) A gens s.basis first queue jobs.0 jobs.1)
+          (least_job-one (IsTreated gens s.basis A.order.vars) A gens s.basis s.sugars first queue jobs.0 jobs.1)
 
   -- what every state has is kept by a step
   pub step-keeps : (mode : Mode) (budget : ℕ) (s s' : State) → IsState A gens s → step A gens mode budget s ≡ On s' → IsState A gens s'

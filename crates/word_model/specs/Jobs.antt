@@ -1,17 +1,18 @@
--- The jobs of a run: their keys, their start polynomials, and the chain rule.
-use Rattle.std.specs.Prelude.{◌≢◌, ℕ, ◌<◌, ◌≤◌, Bool, false, ◌&&◌, not, ◌==◌, nat_lt, List, [], ◌∷◌, length, Option, Some, None, if◌then◌else◌}
+-- The jobs of a run: their sugars and keys, their start polynomials, and the chain rule.
+use Rattle.std.specs.Prelude.{◌≢◌, ℕ, ◌+◌, ◌-◌, ◌<◌, ◌≤◌, max, Bool, false, ◌&&◌, not, ◌==◌, nat_lt, List, [], ◌∷◌, length, slice_index_or, Option, Some, None, if◌then◌else◌}
 use Rattle.std.specs.List.{list_any, filter}
 use Rattle.std.specs.declared.cmp.Ordering.{Ordering}
 use Rattle.std.specs.Ordering.{nat_cmp, ordering_then, is_lt}
-use Rattle.monomials.specs.Monomials.{Monomial, minus, lcm, plus, variable}
+use Rattle.monomials.specs.Monomials.{Monomial, degree, minus, lcm, plus, variable}
 use Rattle.monomials.specs.Orders.{order_cmp}
-use Rattle.monomials.specs.Polynomials.{Polynomial, poly_sub}
+use Rattle.monomials.specs.Polynomials.{Polynomial, poly_degree, poly_sub}
 use Rattle.monomials.specs.Leading.{leading_monomial, leading_coefficient}
 use Rattle.word_model.specs.Words.{Algebra}
 use Rattle.word_model.specs.Products.{product, variable_polynomial, in_reach}
 use Rattle.word_model.specs.Reduction.{element, least_number, lead_divides, quotient, multiple, is_within}
 use Rattle.word_model.specs.declared.records.Job.{Job}
 use Rattle.word_model.specs.declared.records.Job.TheVariants.{Seed, Pair, Right}
+use Rattle.word_model.specs.declared.records.TraceStep.{TraceStep}
 
 -- ---- lists of jobs
 
@@ -29,11 +30,34 @@ is_queued queue job = list_any (same_job job) queue
 abbrev pub without : Job → List Job → List Job
 without job queue = filter (λ other. not (same_job job other)) queue
 
--- ---- keys
-
 -- the lcm of the leading monomials of two elements
 abbrev pub pair_lcm : List Polynomial → ℕ → ℕ → Monomial
 pair_lcm G i j = lcm (leading_monomial (element G i)) (leading_monomial (element G j))
+
+-- ---- sugars
+
+-- the sugar of the element of number i, which counts from 1
+abbrev pub sugar_at : List ℕ → ℕ → ℕ
+sugar_at sugars i = slice_index_or sugars (i - 1) 0
+
+-- by how much the sugar of the element of number i exceeds the degree of its leading monomial
+abbrev pub excess : List Polynomial → List ℕ → ℕ → ℕ
+excess G sugars i = sugar_at sugars i - degree (leading_monomial (element G i))
+
+-- The sugar of a job over elements of these sugars. It is the degree that the job's start would have if each element
+-- were homogeneous of its sugar's degree.
+abbrev pub job_sugar : List Polynomial → List Polynomial → List ℕ → Job → ℕ
+job_sugar gens G sugars (Seed s) = poly_degree (element gens s)
+job_sugar gens G sugars (Pair i j) = degree (pair_lcm G i j) + max (excess G sugars i) (excess G sugars j)
+job_sugar gens G sugars (Right i v) = sugar_at sugars i + 1
+
+-- The sugar of an element whose job has the sugar n and whose start was reduced by these steps: the greatest of n and,
+-- over the steps, the sugar of the element used plus the degree of the step's monomial.
+abbrev pub element_sugar : List ℕ → ℕ → List TraceStep → ℕ
+element_sugar sugars n [] = n
+element_sugar sugars n (t ∷ trace) = element_sugar sugars (max n (sugar_at sugars t.index + degree t.mono)) trace
+
+-- ---- keys
 
 -- the monomial of a job's key
 abbrev pub key_monomial : Algebra → List Polynomial → List Polynomial → Job → Monomial
@@ -41,8 +65,8 @@ key_monomial A gens G (Seed s) = leading_monomial (element gens s)
 key_monomial A gens G (Pair i j) = pair_lcm G i j
 key_monomial A gens G (Right i v) = plus (leading_monomial (element G i)) (variable A.order.vars v)
 
--- What orders jobs of equal monomials: seeds come first, then pairs, then products with variables, and of one kind
--- seeds go by s, pairs by j and then i, products by i and then v.
+-- What orders jobs of equal sugars and monomials: seeds come first, then pairs, then products with variables, and of one
+-- kind seeds go by s, pairs by j and then i, products by i and then v.
 abbrev pub rank_of : Job → ℕ × (ℕ × ℕ)
 rank_of (Seed s) = (0, (s, 0))
 rank_of (Pair i j) = (1, (j, i))
@@ -51,16 +75,17 @@ rank_of (Right i v) = (2, (i, v))
 abbrev pub rank_cmp : ℕ × (ℕ × ℕ) → ℕ × (ℕ × ℕ) → Ordering
 rank_cmp a b = ordering_then (nat_cmp a.0 b.0) (ordering_then (nat_cmp a.1.0 b.1.0) (nat_cmp a.1.1 b.1.1))
 
--- the order of keys: by their monomials, and then by rank
-abbrev pub key_cmp : Algebra → List Polynomial → List Polynomial → Job → Job → Ordering
-key_cmp A gens G a b =
-    ordering_then (order_cmp A.order.rows (key_monomial A gens G a) (key_monomial A gens G b)) (rank_cmp (rank_of a) (rank_of b))
+-- the order of keys: by sugars, then by monomials, and then by rank
+abbrev pub key_cmp : Algebra → List Polynomial → List Polynomial → List ℕ → Job → Job → Ordering
+key_cmp A gens G sugars a b =
+    ordering_then (nat_cmp (job_sugar gens G sugars a) (job_sugar gens G sugars b))
+    (ordering_then (order_cmp A.order.rows (key_monomial A gens G a) (key_monomial A gens G b)) (rank_cmp (rank_of a) (rank_of b)))
 
 -- the job of the least key among `job` and those of the queue
-abbrev pub least_job : Algebra → List Polynomial → List Polynomial → Job → List Job → Job
-least_job A gens G job [] = job
-least_job A gens G job (other ∷ queue) =
-    least_job A gens G (if is_lt (key_cmp A gens G other job) then other else job) queue
+abbrev pub least_job : Algebra → List Polynomial → List Polynomial → List ℕ → Job → List Job → Job
+least_job A gens G sugars job [] = job
+least_job A gens G sugars job (other ∷ queue) =
+    least_job A gens G sugars (if is_lt (key_cmp A gens G sugars other job) then other else job) queue
 
 -- ---- starts
 
@@ -120,3 +145,9 @@ abbrev pub NamesNonzero : List Polynomial → List Polynomial → Job → Type 0
 NamesNonzero gens G (Seed s) = element gens s ≢ []
 NamesNonzero gens G (Pair i j) = (element G i ≢ []) × (element G j ≢ [])
 NamesNonzero gens G (Right i v) = element G i ≢ []
+
+-- there is one sugar for each element, and it is at least the element's degree
+abbrev pub AreSugars : List Polynomial → List ℕ → Type 0
+AreSugars [] [] = Unit {0}
+AreSugars (g ∷ G) (n ∷ sugars) = (poly_degree g ≤ n) × AreSugars G sugars
+AreSugars _ _ = ⊥

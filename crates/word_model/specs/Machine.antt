@@ -5,7 +5,7 @@ use Rattle.monomials.specs.Polynomials.{Polynomial, poly_scale, Each, IsPolynomi
 use Rattle.monomials.specs.Leading.{leading_coefficient}
 use Rattle.word_model.specs.Words.{Algebra}
 use Rattle.word_model.specs.Reduction.{Reduced, reduce}
-use Rattle.word_model.specs.Jobs.{without, least_job, start_of, chain_witness, IsJob, NamesNonzero}
+use Rattle.word_model.specs.Jobs.{without, job_sugar, element_sugar, least_job, start_of, chain_witness, IsJob, NamesNonzero, AreSugars}
 use Rattle.word_model.specs.declared.records.Job.{Job}
 use Rattle.word_model.specs.declared.records.Job.TheVariants.{Seed, Pair, Right}
 use Rattle.word_model.specs.declared.records.Mode.{Mode}
@@ -15,10 +15,11 @@ use Rattle.word_model.specs.declared.records.Entry.TheVariants.{Skipped, Zero, N
 use Rattle.word_model.specs.declared.records.Outcome.{Outcome}
 use Rattle.word_model.specs.declared.records.Outcome.TheVariants.{Finished, BudgetSpent, BasisFull, DegreeOver}
 
--- the entries so far, the basis, and the jobs that are queued
+-- the entries so far, the basis with the sugars of its elements, and the jobs that are queued
 pub record State : Type 0 where
   pub entries : List Entry
   pub basis : List Polynomial
+  pub sugars : List ℕ
   pub queue : List Job
 
 -- a run: its entries, its basis, and how it ended
@@ -54,36 +55,37 @@ jobs_of TwoSided n m = pairs_with m (m - 1) ++ rights_of m n
 
 -- a job leaves the queue with an entry
 abbrev pub with_entry : State → Job → Entry → State
-with_entry s job entry = record { entries = s.entries ++ entry ∷ []; basis = s.basis; queue = without job s.queue }
+with_entry s job entry = record s { entries = s.entries ++ entry ∷ []; queue = without job s.queue }
 
 -- a job leaves the queue with a new element, the rest h times the inverse of its leading coefficient
-abbrev pub with_element : Algebra → Mode → State → Job → Reduced → State
-with_element A mode s job r =
+abbrev pub with_element : Algebra → List Polynomial → Mode → State → Job → Reduced → State
+with_element A gens mode s job r =
     let scale : ℕ = inverse A.p (leading_coefficient r.rest) in
     let m : ℕ = suc (length s.basis) in
     record {
       entries = s.entries ++ New job r.trace scale ∷ [];
       basis = s.basis ++ poly_scale A.p scale r.rest ∷ [];
+      sugars = s.sugars ++ element_sugar s.sugars (job_sugar gens s.basis s.sugars job) r.trace ∷ [];
       queue = without job s.queue ++ jobs_of mode A.order.vars m;
     }
 
 -- the turn of a job whose start was reduced
-abbrev pub turn_of_rest : Algebra → Mode → State → Job → Reduced → Turn
-turn_of_rest A mode s job r =
+abbrev pub turn_of_rest : Algebra → List Polynomial → Mode → State → Job → Reduced → Turn
+turn_of_rest A gens mode s job r =
     if r.over then Over DegreeOver else elim r.rest [
       | [] ↦ On (with_entry s job (Zero job r.trace))
-      | t ∷ f ↦ if nat_le most_elements (length s.basis) then Over BasisFull else On (with_element A mode s job r)
+      | t ∷ f ↦ if nat_le most_elements (length s.basis) then Over BasisFull else On (with_element A gens mode s job r)
     ]
 
 -- the turn of a job with this start
-abbrev pub turn_of_start : Algebra → Mode → State → Job → Option Polynomial → Turn
-turn_of_start A mode s job None = Over DegreeOver
-turn_of_start A mode s job (Some h) = turn_of_rest A mode s job (reduce A s.basis h)
+abbrev pub turn_of_start : Algebra → List Polynomial → Mode → State → Job → Option Polynomial → Turn
+turn_of_start A gens mode s job None = Over DegreeOver
+turn_of_start A gens mode s job (Some h) = turn_of_rest A gens mode s job (reduce A s.basis h)
 
 -- the turn of a job with this chain witness
 abbrev pub turn_of_job : Algebra → List Polynomial → Mode → State → Job → Option ℕ → Turn
 turn_of_job A gens mode s job (Some k) = On (with_entry s job (Skipped job k))
-turn_of_job A gens mode s job None = turn_of_start A mode s job (start_of A gens s.basis job)
+turn_of_job A gens mode s job None = turn_of_start A gens mode s job (start_of A gens s.basis job)
 
 -- One step. The first rule that applies decides: without a job the run is finished; with as many entries as the budget
 -- it is spent; else the job of the least key is skipped by a chain witness, or its start is reduced.
@@ -92,7 +94,7 @@ step A gens mode budget s = elim s.queue [
   | [] ↦ Over Finished
   | first ∷ queue ↦
       if nat_le budget (length s.entries) then Over BudgetSpent
-      else (let job : Job = least_job A gens s.basis first queue in
+      else (let job : Job = least_job A gens s.basis s.sugars first queue in
       turn_of_job A gens mode s job (chain_witness s.basis s.queue job))
 ]
 
@@ -104,7 +106,7 @@ seeds_from s ((t ∷ f) ∷ gens) = Seed s ∷ seeds_from (suc s) gens
 
 -- no entry, no element, and all seeds
 abbrev pub first_state : List Polynomial → State
-first_state gens = record { entries = []; basis = []; queue = seeds_from 1 gens }
+first_state gens = record { entries = []; basis = []; sugars = []; queue = seeds_from 1 gens }
 
 abbrev pub ends_with : State → Outcome → Journal
 ends_with s outcome = record { entries = s.entries; basis = s.basis; outcome = outcome }
@@ -128,9 +130,10 @@ machine A gens mode budget = run_within A gens mode budget (suc budget) (first_s
 abbrev pub IsElement : Algebra → Polynomial → Type 0
 IsElement A g = IsPolynomial A.p A.order g × (g ≢ [])
 
--- the elements are nonzero polynomials, at most as many as a basis may have, and the jobs name nonzero generators,
--- nonzero elements and variables that there are
+-- the elements are nonzero polynomials, at most as many as a basis may have, with a sugar each that is at least its
+-- degree, and the jobs name nonzero generators, nonzero elements and variables that there are
 pub record IsState (A : Algebra) (gens : List Polynomial) (s : State) : Type 0 where
   pub elements : Each (IsElement A) s.basis
   pub few : length s.basis ≤ most_elements
+  pub sugars : AreSugars s.basis s.sugars
   pub jobs : Each (λ job. IsJob (length gens) (length s.basis) A.order.vars job × NamesNonzero gens s.basis job) s.queue

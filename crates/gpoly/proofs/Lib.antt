@@ -4,3 +4,4 @@ pub mod Sorting
 pub mod Multiples
 pub mod Merging
 pub mod Reordering
+pub mod InPlace

@@ -70,12 +70,18 @@ minus_one (suc q) x y pos l =
     ∙ mul-add-mod_self_left (suc q) y (x + (suc q - y))
 
 module _ (p : ℕ) (order : RowOrder) (pos : 0 < p) where
+  -- the number of a sum with a multiple at a monomial
+  pub coefficient_of_sum_with : (k : ℕ) (m : Monomial) (f g : Polynomial) → IsPolynomial p order f → IsPolynomial p order g
+      → coefficient_at m (poly_add (order_cmp order.rows) p f (poly_scale p k g)) ≡ (coefficient_at m f + k * coefficient_at m g) % p
+  coefficient_of_sum_with k m f g hf hg =
+      coefficient_of_sum p order pos m f (poly_scale p k g) hf (IsPolynomial-poly_scale p order pos k g hg)
+      ∙ ap (λ x. (coefficient_at m f + x) % p) (coefficient_of_multiple p k m g pos (IsApart-canonical p order g hg.canonical))
+      ∙ add-mod-mod (coefficient_at m f) (k * coefficient_at m g) p
+
   -- the number of a difference at a monomial
   pub coefficient_of_difference : (m : Monomial) (f g : Polynomial) → IsPolynomial p order f → IsPolynomial p order g
       → coefficient_at m (poly_sub (order_cmp order.rows) p f g) ≡ (coefficient_at m f + (p - coefficient_at m g)) % p
   coefficient_of_difference m f g hf hg =
-      let apart = IsApart-canonical p order g hg.canonical in
-      coefficient_of_sum p order pos m f (poly_scale p (p - 1) g) hf (IsPolynomial-poly_scale p order pos (p - 1) g hg)
-      ∙ ap (λ x. (coefficient_at m f + x) % p) (coefficient_of_multiple p (p - 1) m g pos apart)
-      ∙ add-mod-mod (coefficient_at m f) ((p - 1) * coefficient_at m g) p
-      ∙ minus_one p (coefficient_at m f) (coefficient_at m g) pos (coefficient_at-below p m g pos (HasNumbers-polynomial p order g hg) apart)
+      coefficient_of_sum_with (p - 1) m f g hf hg
+      ∙ minus_one p (coefficient_at m f) (coefficient_at m g) pos
+      (coefficient_at-below p m g pos (HasNumbers-polynomial p order g hg) (IsApart-canonical p order g hg.canonical))

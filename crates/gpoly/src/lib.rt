@@ -1,11 +1,11 @@
 //! Polynomials over a prime field, as lists of terms.
 #![tactic(auto)]
 
-ghost use Rattle.std.specs.Prelude.{◌≡◌, ◌≢◌, ℕ, ◌+◌, ◌-◌, ◌*◌, ◌%◌, ◌<◌, ◌≤◌, ◌↔◌, ◌∷◌, ◌++◌, IsTrue, IsNone, IfSome, IfOk, OnOk, [], drop, length};
+ghost use Rattle.std.specs.Prelude.{◌≡◌, ◌≢◌, ℕ, ◌+◌, ◌-◌, ◌*◌, ◌%◌, ◌<◌, ◌≤◌, ◌↔◌, ◌∷◌, ◌++◌, IsTrue, IsNone, IfSome, IfOk, OnOk, [], drop, length, replicate};
 ghost use Rattle.monomials.specs.Monomials.{Monomial, degree};
 ghost use Rattle.monomials.specs.Orders.{RowOrder, order_cmp};
 ghost use Rattle.monomials.specs.Polynomials.{Each, HasVars, HasNumbers, IsPolynomial, cons_nonzero, from_terms, poly_add, poly_sub, poly_scale, poly_degree, coefficient_at};
-ghost use Rattle.monomials.specs.Leading.{leading_coefficient};
+ghost use Rattle.monomials.specs.Leading.{leading_monomial, leading_coefficient, lead_divides};
 ghost use Rattle.gpoly.specs.Terms.{pair_of, pairs_of, IsTermList};
 
 use monomials::{Expo, Order};
@@ -56,6 +56,17 @@ impl GPoly {
         }
     }
 
+    /// The polynomial with one term, whose number is not zero.
+    pub fn of_term(alloc: Global, coef: u32, mono: Expo) -> Result<GPoly, AllocError>
+        requires not_zero { 0 < coef }
+        requires small { degree mono ≤ 4095 }
+        ensures { IfOk result (λ r. r ≡ (coef, mono) ∷ []) }
+    {
+        let mut terms = Vec::with_capacity(alloc, 1)?;
+        terms.push(Term { coef, mono })?;
+        Ok(GPoly { terms })
+    }
+
     /// The polynomial with these terms, given in any order and with any repetition: equal monomials
     /// are added up. It is sorted by the order.
     pub fn from_terms(
@@ -71,6 +82,8 @@ impl GPoly {
             r ≡ from_terms (order_cmp order.now.rows) field (pairs_of terms.now)) }
         ensures sorted { IfOk result (λ r. IsPolynomial field order.now r) }
         ensures numbers { IfOk result (λ r. HasNumbers field r) }
+        ensures map { IfOk result (λ r. (m : Monomial) →
+            coefficient_at m r ≡ coefficient_at m (pairs_of terms.now) % field) }
     {
         let _p = field.p();
         let terms = sums::summed(alloc, field, order, terms)?;
@@ -95,8 +108,7 @@ impl GPoly {
             coefficient_at m r ≡ (coefficient_at m self.now + coefficient_at m other.now) % field) }
     {
         let _p = field.p();
-        let terms = merge::merged(alloc, field, order, &self.terms, 1, &other.terms)?;
-        Ok(GPoly { terms })
+        self.add_multiple(alloc, field, order, 1, other)
     }
 
     /// The difference `self - other` of two polynomials sorted by one order.
@@ -117,7 +129,31 @@ impl GPoly {
             ≡ (coefficient_at m self.now + (field - coefficient_at m other.now)) % field) }
     {
         let minus_one = field.p() - 1;
-        let terms = merge::merged(alloc, field, order, &self.terms, minus_one, &other.terms)?;
+        self.add_multiple(alloc, field, order, minus_one, other)
+    }
+
+    /// The sum of the polynomial and of k times the other, which is sorted by the same order. It is
+    /// one merge, with no multiple in between.
+    pub fn add_multiple(
+        &self,
+        alloc: Global,
+        field: Field,
+        order: &Order,
+        k: u32,
+        other: &GPoly,
+    ) -> Result<GPoly, AllocError>
+        requires in_range { k < field }
+        requires self_sorted { IsPolynomial field order.now self.now }
+        requires other_sorted { IsPolynomial field order.now other.now }
+        ensures value { IfOk result (λ r. r
+            ≡ poly_add (order_cmp order.now.rows) field self.now (poly_scale field k other.now)) }
+        ensures sorted { IfOk result (λ r. IsPolynomial field order.now r) }
+        ensures numbers { IfOk result (λ r. HasNumbers field r) }
+        ensures map { IfOk result (λ r. (m : Monomial) → coefficient_at m r
+            ≡ (coefficient_at m self.now + k * coefficient_at m other.now) % field) }
+    {
+        let _p = field.p();
+        let terms = merge::merged(alloc, field, order, &self.terms, k, &other.terms)?;
         Ok(GPoly { terms })
     }
 
@@ -150,9 +186,30 @@ impl GPoly {
         ensures numbers { IfOk result (λ (r, _). HasNumbers field r) }
         ensures sorted { IfOk result (λ (r, _). (o : RowOrder) →
             IsPolynomial field o self.now → IsPolynomial field o r) }
+        ensures map { IfOk result (λ (r, k). (m : Monomial) →
+            coefficient_at m r ≡ (k * coefficient_at m self.now) % field) }
     {
         let k = field.inv(self.terms[0].coef);
         Ok((self.scale(alloc, field, k)?, k))
+    }
+
+    /// The same multiple and number as `monic` gives, in the memory of the polynomial.
+    pub fn into_monic(self, field: Field) -> (GPoly, u32)
+        requires not_zero { self ≢ [] }
+        requires numbers { HasNumbers field self }
+        ensures scale { let (_, k) = result in (k * leading_coefficient self) % field ≡ 1 }
+        ensures in_range { let (_, k) = result in k < field }
+        ensures value { let (r, k) = result in r ≡ poly_scale field k self }
+        ensures monic { let (r, _) = result in leading_coefficient r ≡ 1 }
+        ensures numbers { let (r, _) = result in HasNumbers field r }
+        ensures sorted { let (r, _) = result in (o : RowOrder) →
+            IsPolynomial field o self → IsPolynomial field o r }
+        ensures map { let (r, k) = result in (m : Monomial) →
+            coefficient_at m r ≡ (k * coefficient_at m self) % field }
+    {
+        let k = field.inv(self.terms[0].coef);
+        let terms = scaled(self.terms, field, k);
+        (GPoly { terms }, k)
     }
 
     /// The same polynomial, in memory of its own.
@@ -187,6 +244,29 @@ impl GPoly {
         ensures facts { IsTermList self.now }
     {
         self.terms.first()
+    }
+
+    /// The first term of a nonzero polynomial: its leading term, where it is sorted.
+    pub fn lead(&self) -> &Term
+        requires { self.now ≢ [] }
+        ensures first { self.now ≡ pair_of result.now ∷ drop 1 self.now }
+        ensures mono { result.now.mono ≡ leading_monomial self.now }
+        ensures coef { result.now.coef ≡ leading_coefficient self.now }
+        ensures some { 0 < result.now.coef }
+        ensures small { degree result.now.mono ≤ 4095 }
+    {
+        &self.terms[0]
+    }
+
+    /// Whether the polynomial is not zero, and its leading monomial divides this one.
+    pub fn lead_divides(&self, mono: &Expo) -> bool
+        requires { HasVars (length mono.now) self.now }
+        ensures { result ≡ lead_divides self.now mono.now }
+    {
+        match self.leading() {
+            Some(term) => term.mono.divides(mono),
+            None => false,
+        }
     }
 
     /// The terms, with the greatest monomial first where the polynomial is sorted.
@@ -225,6 +305,28 @@ impl GPoly {
     }
 }
 
+/// The same polynomials, in memory of their own.
+pub fn copies(alloc: Global, polys: &[GPoly]) -> Result<Vec<GPoly>, AllocError>
+    ensures { IfOk result (λ all. all.items ≡ polys.now) }
+{
+    let mut all = Vec::with_capacity(alloc, polys.len())?;
+    for poly in polys {
+        all.push(poly.copy(alloc)?)?;
+    }
+    Ok(all)
+}
+
+/// So many zero polynomials.
+pub fn zeros(alloc: Global, count: usize) -> Result<Vec<GPoly>, AllocError>
+    ensures { IfOk result (λ r. r.items ≡ replicate count []) }
+{
+    let mut zeros = Vec::with_capacity(alloc, count)?;
+    for _place in 0..count {
+        zeros.push(GPoly::zero(alloc))?;
+    }
+    Ok(zeros)
+}
+
 // Adds a term at the end, unless its number is zero.
 fn push_nonzero(terms: &mut Vec<Term>, coef: u32, mono: Expo) -> Result<(), AllocError>
     ensures { OnOk result (pairs_of terms.new.items
@@ -252,4 +354,19 @@ fn push_multiples(
         push_nonzero(multiples, field.mul(k, term.coef), term.mono)?;
     }
     Ok(())
+}
+
+// The multiples by k of these terms, in their memory. None is zero.
+fn scaled(mut terms: Vec<Term>, field: Field, k: u32) -> Vec<Term>
+    requires in_range { k < field }
+    requires not_zero { 0 < k }
+    requires numbers { HasNumbers field (pairs_of terms.items) }
+    requires some { Each (λ t. 0 < t.0) (pairs_of terms.items) }
+    ensures { pairs_of result.items ≡ poly_scale field k (pairs_of terms.items) }
+{
+    let _p = field.p();
+    for i in 0..terms.len() {
+        terms[i].coef = field.mul(k, terms[i].coef);
+    }
+    terms
 }

@@ -3,7 +3,7 @@ ghost use Rattle.monomials.specs.Monomials.{degree};
 ghost use Rattle.monomials.specs.Polynomials.{Each, HasVars, HasNumbers};
 ghost use Rattle.gpoly.specs.Terms.{pairs_of};
 
-use super::{GPoly, Term};
+use super::{GPoly, Term, copies, zeros};
 use monomials::{Block, Expo, Order};
 use prime_field::Field;
 use std::alloc::{AllocError, Global};
@@ -124,6 +124,49 @@ fn subtracts(rt: HostRuntime) -> Result<(), Fail> {
 }
 
 #[test]
+fn adds_a_multiple(rt: HostRuntime) -> Result<(), Fail> {
+    let alloc = rt.alloc();
+    let field = Field::of(7)?;
+    let order = Order::new(alloc, &[Block::DegRev { len: 2 }], 2)?;
+    let f = terms_of(alloc, field, &[(2, 2, 0), (3, 1, 0), (1, 0, 0)])?;
+    let g = terms_of(alloc, field, &[(5, 1, 1), (4, 1, 0), (2, 0, 0)])?;
+    let want = terms_of(alloc, field, &[(2, 2, 0), (1, 1, 1), (1, 1, 0)])?;
+    let f = GPoly::from_terms(alloc, field, &order, &f)?;
+    let g = GPoly::from_terms(alloc, field, &order, &g)?;
+    let sum = f.add_multiple(alloc, field, &order, 3, &g)?;
+    assert_eq!(rt; sum.terms(), want.as_slice());
+    Ok(())
+}
+
+#[test]
+fn leads(rt: HostRuntime) -> Result<(), Fail> {
+    let alloc = rt.alloc();
+    let mono = Expo::var(2, 1);
+    let x = GPoly::of_term(alloc, 3, mono)?;
+    assert_eq!(rt; x.lead(), &Term { coef: 3, mono });
+    assert!(rt; x.lead_divides(&Expo::of(&[1, 2])));
+    assert!(rt; !x.lead_divides(&Expo::var(2, 2)));
+    assert!(rt; !GPoly::zero(alloc).lead_divides(&mono));
+    Ok(())
+}
+
+#[test]
+fn lists(rt: HostRuntime) -> Result<(), Fail> {
+    let alloc = rt.alloc();
+    let polys = [
+        GPoly::of_term(alloc, 3, Expo::var(2, 1))?,
+        GPoly::zero(alloc),
+    ];
+    let copies = copies(alloc, &polys)?;
+    assert_eq!(rt; copies.len(), 2);
+    assert!(rt; copies[0].equals(&polys[0]) && copies[1].is_zero());
+    let zeros = zeros(alloc, 2)?;
+    assert_eq!(rt; zeros.len(), 2);
+    assert!(rt; zeros[0].is_zero() && zeros[1].is_zero());
+    Ok(())
+}
+
+#[test]
 fn makes_monic(rt: HostRuntime) -> Result<(), Fail> {
     let alloc = rt.alloc();
     let field = Field::of(7)?;
@@ -134,6 +177,9 @@ fn makes_monic(rt: HostRuntime) -> Result<(), Fail> {
     assert!(rt; !f.is_zero());
     let (monic, scale) = f.monic(alloc, field)?;
     assert_eq!(rt; monic.terms(), want.as_slice());
+    assert_eq!(rt; scale, 4);
+    let (in_place, scale) = f.into_monic(field);
+    assert!(rt; in_place.equals(&monic));
     assert_eq!(rt; scale, 4);
     Ok(())
 }

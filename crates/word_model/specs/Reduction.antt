@@ -4,6 +4,7 @@ use Rattle.prime_field.specs.Modular.{inverse}
 use Rattle.monomials.specs.Monomials.{Monomial, degree, minus, divides}
 use Rattle.monomials.specs.Orders.{order_cmp}
 use Rattle.monomials.specs.Polynomials.{Polynomial, poly_sub, poly_degree}
+pub use Rattle.monomials.specs.Leading.{lead_divides}
 use Rattle.monomials.specs.Leading.{leading_monomial, leading_coefficient}
 use Rattle.word_model.specs.Words.{Algebra}
 use Rattle.word_model.specs.Products.{product, degree_limit}
@@ -17,11 +18,6 @@ element G i = slice_index_or G (i - 1) []
 abbrev pub least_number : (ℕ → Bool) → ℕ → ℕ → Option ℕ
 least_number test i zero = None
 least_number test i (suc k) = if test i then Some i else least_number test (suc i) k
-
--- whether g is nonzero, and its leading monomial divides m
-abbrev pub lead_divides : Polynomial → Monomial → Bool
-lead_divides [] m = false
-lead_divides (t ∷ g) m = divides t.1 m
 
 -- the number of the first element whose leading monomial divides m
 abbrev pub first_divisor : List Polynomial → Monomial → Option ℕ

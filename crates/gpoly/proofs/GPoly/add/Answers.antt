@@ -1,46 +1,12 @@
-use Rattle.std.proofs.Common.{◌≡◌, ◌<◌, ◌∙◌, sym, ap, subst, arith, rules}
+use Rattle.std.proofs.Common.{◌∙◌, ap}
+use Rattle.std.proofs.lemmas.Result.{IfOk-weaker}
 use Rattle.monomials.specs.Orders.{order_cmp}
-use Rattle.monomials.specs.Polynomials.{IsPolynomial, poly_add, poly_scale, coefficient_at}
-use Rattle.monomials.proofs.Operations.{HasNumbers-polynomial, IsPolynomial-poly_add, coefficient_of_sum}
-use Rattle.gpoly.specs.Terms.{pairs_of, IsTermList}
+use Rattle.monomials.specs.Polynomials.{poly_add}
 use Rattle.gpoly.proofs.Multiples.{poly_scale-one}
-use Rattle.gpoly.proofs.TermLists.{IsTermList-poly_add}
 use Rattle.gpoly.proofs.GPoly.add.Goals as goal
 
--- the merged terms are the sum with the multiple by 1
-merged_terms : (c : goal.In_ok-terms)
-    → pairs_of c.in_ok-terms.terms.items ≡ poly_add (order_cmp c.args.order.now.rows) c.args.field c.args.self.now (poly_scale c.args.field 1 c.args.other.now)
-merged_terms c = search rules
-
--- so they are the sum
-whole : (c : goal.In_ok-terms) → pairs_of c.in_ok-terms.terms.items ≡ poly_add (order_cmp c.args.order.now.rows) c.args.field c.args.self.now c.args.other.now
-whole c =
-    merged_terms c
-    ∙ ap (poly_add (order_cmp c.args.order.now.rows) c.args.field c.args.self.now)
-    (poly_scale-one (order_cmp c.args.order.now.rows) c.args.field c.args.other.now c.requires.other_sorted.canonical)
-
-positive : (c : goal.In_ok-terms) → 0 < c.args.field
-positive c = omega (arith, c.p-p.ensures.prime.above_one)
-
 pub returns-clause-value : goal.returns-clause-value
-returns-clause-value c = whole c
-
-pub invariant_of-result : goal.invariant_of-result
-invariant_of-result c =
-    subst IsTermList (sym (whole c))
-    (IsTermList-poly_add c.args.field c.args.order.now c.args.self.now c.args.other.now (positive c)
-    (subst IsTermList c.self.view_is c.self.invariant) (subst IsTermList c.other.view_is c.other.invariant) c.requires.self_sorted c.requires.other_sorted)
-
-pub returns-clause-sorted : goal.returns-clause-sorted
-returns-clause-sorted c =
-    subst (IsPolynomial c.args.field c.args.order.now) (sym (whole c))
-    (IsPolynomial-poly_add c.args.field c.args.order.now (positive c) c.args.self.now c.args.other.now c.requires.self_sorted c.requires.other_sorted)
-
-pub returns-clause-numbers : goal.returns-clause-numbers
-returns-clause-numbers c =
-    HasNumbers-polynomial c.args.field c.args.order.now (pairs_of c.in_ok-terms.terms.items) (returns-clause-sorted c)
-
-pub returns-clause-map : goal.returns-clause-map
-returns-clause-map c m =
-    ap (coefficient_at m) (whole c)
-    ∙ coefficient_of_sum c.args.field c.args.order.now (positive c) m c.args.self.now c.args.other.now c.requires.self_sorted c.requires.other_sorted
+returns-clause-value c =
+    IfOk-weaker c.add_multiple.result _ _
+    (λ r e. e ∙ ap (poly_add (order_cmp c.args.order.now.rows) c.args.field c.args.self.now) (poly_scale-one (order_cmp c.args.order.now.rows) c.args.field c.args.other.now c.requires.other_sorted.canonical))
+    c.add_multiple.ensures.value

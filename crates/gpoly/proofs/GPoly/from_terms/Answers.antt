@@ -1,6 +1,6 @@
-use Rattle.std.proofs.Common.{sym, subst, arith}
-use Rattle.monomials.specs.Polynomials.{IsPolynomial}
-use Rattle.monomials.proofs.Operations.{HasNumbers-polynomial, IsPolynomial-from_terms}
+use Rattle.std.proofs.Common.{◌∙◌, sym, ap, subst, arith}
+use Rattle.monomials.specs.Polynomials.{IsPolynomial, coefficient_at}
+use Rattle.monomials.proofs.Operations.{HasNumbers-polynomial, IsPolynomial-from_terms, coefficient_of_terms}
 use Rattle.gpoly.specs.Terms.{pairs_of, IsTermList}
 use Rattle.gpoly.proofs.TermLists.{IsTermList-from_terms}
 use Rattle.gpoly.proofs.GPoly.from_terms.Goals as goal
@@ -17,3 +17,8 @@ returns-clause-sorted c =
 
 pub returns-clause-numbers : goal.returns-clause-numbers
 returns-clause-numbers c = HasNumbers-polynomial c.args.field c.args.order.now (pairs_of c.in_ok-terms.terms.items) (returns-clause-sorted c)
+
+pub returns-clause-map : goal.returns-clause-map
+returns-clause-map c m =
+    ap (coefficient_at m) c.in_ok-terms.ensures
+    ∙ coefficient_of_terms c.args.field c.args.order.now (omega (arith, c.p-p.ensures.prime.above_one)) m (pairs_of c.args.terms.now)

@@ -8,7 +8,7 @@ use Rattle.monomials.specs.Polynomials.{Polynomial, Each, HasNumbers, HasVars, I
 use Rattle.monomials.proofs.Operations.{HasNumbers-canonical}
 use Rattle.gpoly.specs.declared.Term.{Term}
 use Rattle.gpoly.specs.Terms.{pair_of, pairs_of, IsTermList}
-use Rattle.algebra.specs.Falling.{IsStrictlyFalling}
+use Rattle.algebra.specs.Inside.Falling.{IsStrictlyFalling}
 
 -- the numbers are below p, and the monomials in n variables
 abbrev pub AreTerms : ℕ → ℕ → List Term → Type 0

@@ -13,7 +13,7 @@ use Rattle.word_model.proofs.Letters.{Each-map, Each-both, IsWord-sorted_word, l
 use Rattle.word_model.proofs.NormalForms.{product-variable}
 use Rattle.word_model.proofs.Degrees.{HasDegrees-poly_degree, poly_degree-le}
 use Rattle.word_model.proofs.TermProducts.{poly_degree-variable, product-append}
-use Rattle.algebra.specs.WordSums.{between, reduced}
+use Rattle.algebra.specs.Inside.WordSums.{between, reduced}
 use Rattle.algebra.proofs.OverlapSums.{IsFit, word_value-reduced}
 
 -- the words of a polynomial with a letter behind them

@@ -62,13 +62,13 @@ module _ (A : Algebra) (o : RowOrder) (vars : o.vars ≡ A.order.vars) (ok : IsG
       (p.0, p.1, pair_fault-reordered p.0 p.1 f p.2 p.3 p.4 p.5)
 
   -- what the test of the pairs reports is a fault of the order
-  pub ReportsOrdering-pairs : (e : AlgebraFault) → IsReported (pairs_fault (reordered o A)) e → ReportsOrdering (reordered o A) e
+  pub ReportsOrdering-pairs : (e : AlgebraFault) → IsReported (pairs_fault (reordered o A)) ⊥ e → ReportsOrdering (reordered o A) e
   ReportsOrdering-pairs (Coefficient i j) is = let f = fault_is (Fault.Coefficient i j) is in let no : Fault.Coefficient i j ≡ Fault.Ordering f.0 f.1 = f.2 in cc
   ReportsOrdering-pairs (Profile i j) is = let f = fault_is (Fault.Profile i j) is in let no : Fault.Profile i j ≡ Fault.Ordering f.0 f.1 = f.2 in cc
   ReportsOrdering-pairs (Ordering i j) is = Reports-pairs (reordered o A) (Ordering i j) is
   ReportsOrdering-pairs (NonDegeneracy i j k rest) is =
       let f = fault_is (Fault.NonDegeneracy i j k rest) is in let no : Fault.NonDegeneracy i j k rest ≡ Fault.Ordering f.0 f.1 = f.2 in cc
-  ReportsOrdering-pairs Memory is = tt
+  ReportsOrdering-pairs Memory is = absurd is
 
   -- no triple has a fault
   pub triples_fault-reordered : triples_fault (reordered o A) ≡ None

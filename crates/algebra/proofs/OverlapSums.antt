@@ -9,7 +9,7 @@ use Rattle.word_model.specs.Words.{Algebra, Word, WordSum, IsWord, IsSmall, sort
 use Rattle.word_model.specs.Conditions.{times_words, overlap}
 use Rattle.word_model.proofs.Letters.{Each-map, IsWord-sorted_word, length-word_from}
 use Rattle.word_model.proofs.NormalForms.{word_weight, weigh-word_value, word_value_is_polynomial, same_weights}
-use Rattle.algebra.specs.WordSums.{reduced, between, IsPending}
+use Rattle.algebra.specs.Inside.WordSums.{reduced, between, IsPending}
 use Rattle.algebra.proofs.Sums.{weigh-reduced, reduced-times_words, reduced-append}
 
 -- the negative of a number

@@ -3,7 +3,7 @@ use Rattle.std.proofs.Common.{◌≡◌, ℕ, zero, suc, ◌<◌, ◌≤◌, Lis
 use Rattle.std.specs.List.{swap}
 use Rattle.word_model.specs.Words.{Word, behind_letter, leftmost_descent}
 use Rattle.word_model.proofs.Descents.{descent_here, descent_behind}
-use Rattle.algebra.specs.Places.{descent_at, with_swapped}
+use Rattle.algebra.specs.Inside.Places.{descent_at, with_swapped}
 
 -- the first place at which a letter stands before a smaller one is the leftmost descent
 pub first_descent : (w : Word) (k : ℕ) → suc k < length w → ((q : ℕ) → q < k → get_or w q 0 ≤ get_or w (suc q) 0) → get_or w (suc k) 0 < get_or w k 0

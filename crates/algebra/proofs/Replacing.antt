@@ -16,8 +16,8 @@ use Rattle.word_model.proofs.Termination.{measure, IsLess, normal_form-sorted}
 use Rattle.word_model.proofs.NormalForms.{word_weight, word_weight-descent, weigh-word_value, word_value_is_polynomial, same_weights}
 use Rattle.word_model.proofs.Rules.{rule_of, weigh-rewritten}
 use Rattle.word_model.proofs.Induction.{less_swapped, less_replaced}
-use Rattle.algebra.specs.Places.{with_swapped}
-use Rattle.algebra.specs.WordSums.{reduced, between, replacement, IsPending}
+use Rattle.algebra.specs.Inside.Places.{with_swapped}
+use Rattle.algebra.specs.Inside.WordSums.{reduced, between, replacement, IsPending}
 use Rattle.algebra.proofs.Sums.{length-reduced, length-times_words, weigh-reduced}
 
 -- the word with a monomial in the place of the two letters

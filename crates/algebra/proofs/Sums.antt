@@ -8,8 +8,8 @@ use Rattle.monomials.proofs.Weights.{weigh}
 use Rattle.word_model.specs.Words.{Algebra, Word, WordSum, Descent, c_of, d_of}
 use Rattle.word_model.specs.Conditions.{times_words}
 use Rattle.algebra.specs.declared.rewriting.WordTerm.{WordTerm}
-use Rattle.algebra.specs.Places.{with_swapped}
-use Rattle.algebra.specs.WordSums.{numbered_word, words_of, reduced, between, replacement}
+use Rattle.algebra.specs.Inside.Places.{with_swapped}
+use Rattle.algebra.specs.Inside.WordSums.{numbered_word, words_of, reduced, between, replacement}
 
 -- one word more
 pub words_of-push : (ts : List WordTerm) (t : WordTerm) → words_of (ts ++ t ∷ []) ≡ words_of ts ++ numbered_word t ∷ []

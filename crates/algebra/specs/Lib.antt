@@ -1,7 +1,4 @@
-pub mod Presentations
 pub mod Faults
-pub mod Places
-pub mod WordSums
 pub mod Reordered
-pub mod Falling
 pub mod Limited
+pub mod Inside

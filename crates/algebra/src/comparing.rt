@@ -4,7 +4,7 @@ ghost use Rattle.std.specs.Prelude.{◌≡◌, ℕ, suc, ◌<◌, ◌↔◌, IsT
 ghost use Rattle.monomials.specs.Orders.{order_cmp};
 ghost use Rattle.monomials.specs.Polynomials.{HasNumbers, HasVars, IsPolynomial};
 ghost use Rattle.gpoly.specs.Terms.{pairs_of};
-ghost use Rattle.algebra.specs.Falling.{IsStrictlyFalling};
+ghost use Rattle.algebra.specs.Inside.Falling.{IsStrictlyFalling};
 
 use crate::Algebra;
 use gpoly::{GPoly, Term};

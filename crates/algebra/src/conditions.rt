@@ -4,8 +4,8 @@ ghost use Rattle.std.specs.Prelude.{◌≡◌, ◌+◌, ◌<◌, ◌≤◌, IfOk
 ghost use Rattle.monomials.specs.Polynomials.{IsPolynomial};
 ghost use Rattle.word_model.specs.Words.{RewritesDown, d_of};
 ghost use Rattle.word_model.specs.Conditions.{is_below, overlap, pair_fault, pairs_fault, triple_fault, triple_rest, triples_fault};
-ghost use Rattle.algebra.specs.Faults.{Answers, row_fault, line_fault, plane_fault};
-ghost use Rattle.algebra.specs.WordSums.{words_of, reduced};
+ghost use Rattle.algebra.specs.Inside.Tests.{Answers, Finds, row_fault, line_fault, plane_fault};
+ghost use Rattle.algebra.specs.Inside.WordSums.{words_of, reduced};
 
 use crate::presentation::Presentation;
 use crate::rewriting::{WordTerm, push_between};
@@ -17,7 +17,7 @@ use std::cmp::Ordering;
 impl Presentation {
     /// Tests all pairs.
     pub(crate) fn test_pairs(&self) -> Result<(), AlgebraFault>
-        ensures { Answers (pairs_fault self.now) result }
+        ensures { Finds (pairs_fault self.now) result }
     {
         let n = self.n() as u8;
         for i in 1..n + 1 {
@@ -30,7 +30,7 @@ impl Presentation {
     fn test_row(&self, i: u8) -> Result<(), AlgebraFault>
         requires first { 1 ≤ i }
         requires last { i ≤ self.now.order.vars }
-        ensures { Answers (row_fault self.now i) result }
+        ensures { Finds (row_fault self.now i) result }
     {
         let n = self.n() as u8;
         for j in i + 1..n + 1 {
@@ -44,7 +44,7 @@ impl Presentation {
         requires first { 1 ≤ i }
         requires pair { i < j }
         requires last { j ≤ self.now.order.vars }
-        ensures { Answers (pair_fault self.now i j) result }
+        ensures { Finds (pair_fault self.now i j) result }
     {
         if self.c(i, j) == 0 {
             Err(AlgebraFault::Coefficient { i, j })

@@ -46,7 +46,7 @@ impl Model for Presentation {
 
     ghost Value = { GAlgebra };
 
-    ghost use Rattle.algebra.specs.Presentations.{presented, IsPresentation};
+    ghost use Rattle.algebra.specs.Inside.Presentations.{presented, IsPresentation};
 
     ghost view = { presented };
 

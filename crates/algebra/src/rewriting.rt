@@ -6,8 +6,8 @@ ghost use Rattle.monomials.specs.Orders.{order_cmp};
 ghost use Rattle.monomials.specs.Polynomials.{Each, HasNumbers, HasVars, IsPolynomial, from_terms};
 ghost use Rattle.gpoly.specs.Terms.{pairs_of};
 ghost use Rattle.word_model.specs.Words.{IsWord, RewritesDown, leftmost_descent, word_value};
-ghost use Rattle.algebra.specs.Places.{descent_at};
-ghost use Rattle.algebra.specs.WordSums.{words_of, reduced, between, replacement, IsPending};
+ghost use Rattle.algebra.specs.Inside.Places.{descent_at};
+ghost use Rattle.algebra.specs.Inside.WordSums.{words_of, reduced, between, replacement, IsPending};
 
 use crate::presentation::Presentation;
 use crate::word;

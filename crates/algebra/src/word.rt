@@ -2,7 +2,7 @@
 
 ghost use Rattle.std.specs.Prelude.{◌≡◌, ◌+◌, ◌<◌, ◌≤◌, ◌++◌, length, IfOk, OnOk, MatchOption, None, Some};
 ghost use Rattle.word_model.specs.Words.{IsWord, leftmost_descent, monomial_of, sorted_word};
-ghost use Rattle.algebra.specs.Places.{descent_at};
+ghost use Rattle.algebra.specs.Inside.Places.{descent_at};
 
 use monomials::Expo;
 use std::alloc::{AllocError, Global};

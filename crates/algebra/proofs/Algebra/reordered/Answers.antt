@@ -20,7 +20,7 @@ returns-in_err-test_pairs-clause-fault c =
     let o = c.args.order.now in
     rw (p.1, p.2)
     (ReportsOrdering-pairs A o c.requires c.n-n.ensures.accepted e
-    (subst (λ (B : Algebra). IsReported (pairs_fault B) e) (c.in_ok-presentation.ensures ∙ ap (reordered o) c.self.view_is) c.in_err-test_pairs.ensures))
+    (subst (λ (B : Algebra). IsReported (pairs_fault B) ⊥ e) (c.in_ok-presentation.ensures ∙ ap (reordered o) c.self.view_is) c.in_err-test_pairs.ensures))
 
 -- the new relations are those of the algebra
 its_relations : (c : goal.In_ok-test_pairs) → c.in_ok-presentation.presentation ≡ reordered c.args.order.now c.args.self.now

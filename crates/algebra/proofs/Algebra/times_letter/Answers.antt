@@ -5,7 +5,7 @@ use Rattle.monomials.specs.Polynomials.{HasNumbers}
 use Rattle.monomials.proofs.Operations.{HasNumbers-canonical}
 use Rattle.word_model.specs.Words.{word_value}
 use Rattle.word_model.specs.Products.{product, variable_polynomial}
-use Rattle.algebra.specs.WordSums.{words_of, reduced, between, IsPending}
+use Rattle.algebra.specs.Inside.WordSums.{words_of, reduced, between, IsPending}
 use Rattle.algebra.proofs.OverlapSums.{IsPending-reduced}
 use Rattle.algebra.proofs.Letterwise.{letter_fits, letter_value}
 use Rattle.algebra.proofs.Algebra.times_letter.Goals as goal

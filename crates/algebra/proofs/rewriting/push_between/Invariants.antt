@@ -1,6 +1,6 @@
 use Rattle.std.proofs.Common.{◌≡◌, ◌++◌, drop}
 use Rattle.gpoly.specs.Terms.{pairs_of}
-use Rattle.algebra.specs.WordSums.{words_of, reduced, between}
+use Rattle.algebra.specs.Inside.WordSums.{words_of, reduced, between}
 use Rattle.algebra.proofs.rewriting.push_between.Given as goal
 
 abbrev pub invariant-loop-term : goal.invariant-loop-term

@@ -3,7 +3,7 @@ use Rattle.monomials.specs.Polynomials.{Polynomial}
 use Rattle.monomials.proofs.Modulo.{Same, same_refl, same_mul, same_rest}
 use Rattle.word_model.specs.Words.{Algebra, WordSum, sorted_word, c_of, d_of}
 use Rattle.word_model.specs.Conditions.{times_words}
-use Rattle.algebra.specs.WordSums.{words_of}
+use Rattle.algebra.specs.Inside.WordSums.{words_of}
 use Rattle.algebra.proofs.OverlapSums.{same_negative, pushed, with_first, with_last}
 use Rattle.algebra.proofs.presentation.Presentation.overlap.Goals as goal
 

@@ -5,8 +5,8 @@ use Rattle.std.proofs.lemmas.Grind.{get_or_default_zero}
 use Rattle.word_model.specs.Words.{Algebra, Descent, leftmost_descent, d_of, c_of}
 use Rattle.word_model.proofs.Descents.{found_descent}
 use Rattle.algebra.specs.declared.rewriting.WordTerm.{WordTerm}
-use Rattle.algebra.specs.Places.{descent_at, with_swapped}
-use Rattle.algebra.specs.WordSums.{words_of, numbered_word, reduced, between, replacement}
+use Rattle.algebra.specs.Inside.Places.{descent_at, with_swapped}
+use Rattle.algebra.specs.Inside.WordSums.{words_of, numbered_word, reduced, between, replacement}
 use Rattle.algebra.proofs.Places.{swap-side_by_side}
 use Rattle.algebra.proofs.Sums.{push_replacement}
 use Rattle.algebra.proofs.presentation.Presentation.push_rewritten.Goals as goal

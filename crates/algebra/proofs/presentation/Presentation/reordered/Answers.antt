@@ -6,7 +6,7 @@ use Rattle.monomials.proofs.Operations.{HasNumbers-canonical}
 use Rattle.gpoly.proofs.Lists.{Each-get_or}
 use Rattle.word_model.specs.Words.{Algebra}
 use Rattle.word_model.specs.Conditions.{IsAlgebraData}
-use Rattle.algebra.specs.Presentations.{presented}
+use Rattle.algebra.specs.Inside.Presentations.{presented}
 use Rattle.algebra.specs.Reordered.{reordered}
 use Rattle.algebra.proofs.SortedRelations.{sorted_more, data_reordered}
 use Rattle.algebra.proofs.presentation.Presentation.reordered.Goals as goal

@@ -3,8 +3,8 @@ use Rattle.std.proofs.lemmas.List.{map-append}
 use Rattle.monomials.proofs.Keys.{Each-second}
 use Rattle.gpoly.specs.Terms.{pair_of, pairs_of}
 use Rattle.word_model.specs.Words.{Word, IsWord, leftmost_descent, monomial_of}
-use Rattle.algebra.specs.Places.{descent_at}
-use Rattle.algebra.specs.WordSums.{numbered_word, words_of}
+use Rattle.algebra.specs.Inside.Places.{descent_at}
+use Rattle.algebra.specs.Inside.WordSums.{numbered_word, words_of}
 use Rattle.algebra.proofs.Sums.{words_of-push}
 use Rattle.algebra.proofs.Replacing.{IsRewriting, sum_measure, begin, go_sorted, go_on, finish, taken_falls, step_falls}
 use Rattle.algebra.proofs.presentation.Presentation.sorted_terms.Goals as goal

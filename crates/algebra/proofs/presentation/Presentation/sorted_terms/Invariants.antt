@@ -1,5 +1,5 @@
 use Rattle.gpoly.specs.Terms.{pairs_of}
-use Rattle.algebra.specs.WordSums.{words_of}
+use Rattle.algebra.specs.Inside.WordSums.{words_of}
 use Rattle.algebra.proofs.Replacing.{IsRewriting, sum_measure}
 use Rattle.algebra.proofs.presentation.Presentation.sorted_terms.Given as goal
 

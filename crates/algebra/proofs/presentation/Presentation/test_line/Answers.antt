@@ -9,7 +9,7 @@ pub returns-in_err-test_triple : goal.returns-in_err-test_triple
 returns-in_err-test_triple c =
     let p = err_from_is_err_and c.from_residual.result c.from_residual.ensures.1 in
     rw (p.1, p.2)
-    (IsReported-first_from (λ x. triple_fault c.args.self.now c.args.i c.args.j x) (suc c.args.j) (c.args.self.now.order.vars - c.args.j) c.loop-k.k c.in_err-test_triple.field-0.0
+    (IsReported-first_from (λ x. triple_fault c.args.self.now c.args.i c.args.j x) (Unit {0}) (suc c.args.j) (c.args.self.now.order.vars - c.args.j) c.loop-k.k c.in_err-test_triple.field-0.0
     (omega arith) (omega arith) (λ x low high. c.loop-k.invariant x (omega arith) high) c.in_err-test_triple.ensures)
 
 pub returns : goal.returns

@@ -1,5 +1,5 @@
 use Rattle.std.proofs.Common.{◌≡◌, ℕ, ◌<◌, None}
-use Rattle.algebra.specs.Faults.{row_fault}
+use Rattle.algebra.specs.Inside.Tests.{row_fault}
 use Rattle.algebra.proofs.presentation.Presentation.test_pairs.Given as goal
 
 abbrev pub invariant-loop-i : goal.invariant-loop-i

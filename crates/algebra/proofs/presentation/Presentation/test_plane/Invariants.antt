@@ -1,5 +1,5 @@
 use Rattle.std.proofs.Common.{◌≡◌, ℕ, ◌<◌, None}
-use Rattle.algebra.specs.Faults.{line_fault}
+use Rattle.algebra.specs.Inside.Tests.{line_fault}
 use Rattle.algebra.proofs.presentation.Presentation.test_plane.Given as goal
 
 abbrev pub invariant-loop-j : goal.invariant-loop-j

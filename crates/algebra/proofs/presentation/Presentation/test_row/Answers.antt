@@ -9,7 +9,7 @@ pub returns-in_err-test_pair : goal.returns-in_err-test_pair
 returns-in_err-test_pair c =
     let p = err_from_is_err_and c.from_residual.result c.from_residual.ensures.1 in
     rw (p.1, p.2)
-    (IsReported-first_from (λ x. pair_fault c.args.self.now c.args.i x) (suc c.args.i) (c.args.self.now.order.vars - c.args.i) c.loop-j.j c.in_err-test_pair.field-0.0
+    (IsReported-first_from (λ x. pair_fault c.args.self.now c.args.i x) ⊥ (suc c.args.i) (c.args.self.now.order.vars - c.args.i) c.loop-j.j c.in_err-test_pair.field-0.0
     (omega arith) (omega arith) (λ x low high. c.loop-j.invariant x (omega arith) high) c.in_err-test_pair.ensures)
 
 pub returns : goal.returns

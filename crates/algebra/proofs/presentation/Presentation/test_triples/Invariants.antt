@@ -1,5 +1,5 @@
 use Rattle.std.proofs.Common.{◌≡◌, ℕ, ◌<◌, None}
-use Rattle.algebra.specs.Faults.{plane_fault}
+use Rattle.algebra.specs.Inside.Tests.{plane_fault}
 use Rattle.algebra.proofs.presentation.Presentation.test_triples.Given as goal
 
 abbrev pub invariant-loop-i : goal.invariant-loop-i

@@ -2,7 +2,7 @@ use Rattle.std.proofs.Common.{◌≡◌, ◌∙◌, sym, ap, subst, arith}
 use Rattle.std.proofs.lemmas.Result.{IfOk-weaker}
 use Rattle.word_model.specs.Words.{word_value}
 use Rattle.word_model.specs.Conditions.{overlap, triple_rest}
-use Rattle.algebra.specs.WordSums.{words_of, IsPending}
+use Rattle.algebra.specs.Inside.WordSums.{words_of, IsPending}
 use Rattle.algebra.proofs.OverlapSums.{word_value-reduced, IsPending-reduced, overlap_fits}
 use Rattle.algebra.proofs.presentation.Presentation.triple_rest.Goals as goal
 

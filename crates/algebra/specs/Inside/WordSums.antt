@@ -4,7 +4,7 @@ use Rattle.monomials.specs.Monomials.{Monomial}
 use Rattle.monomials.specs.Polynomials.{Polynomial, Each}
 use Rattle.word_model.specs.Words.{Algebra, Word, WordSum, IsWord, Descent, sorted_word, c_of, d_of}
 use Rattle.word_model.specs.Conditions.{times_words}
-use Rattle.algebra.specs.Places.{with_swapped}
+use Rattle.algebra.specs.Inside.Places.{with_swapped}
 use Rattle.algebra.specs.declared.rewriting.WordTerm.{WordTerm}
 
 -- a word with its number

@@ -1,0 +1,5 @@
+pub mod Presentations
+pub mod Tests
+pub mod Places
+pub mod WordSums
+pub mod Falling

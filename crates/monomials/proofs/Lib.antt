@@ -8,6 +8,9 @@ pub mod OrderLaws
 pub mod Coefficients
 pub mod Operations
 pub mod Exponents
+pub mod Lanes
+pub mod Masks
+pub mod Packing
 pub mod RowValues
 pub mod GradedRows
 pub mod Placing

@@ -12,7 +12,9 @@ use Rattle.monomials.specs.Monomials.{zip_with}
 use Rattle.monomials.specs.Orders.{row_value}
 use Rattle.monomials.specs.Blocks.{row_of, weights_row}
 use Rattle.monomials.specs.Rows.{weighted}
-use Rattle.monomials.specs.Padded.{IsPadded, exponents, zeros}
+use Rattle.monomials.specs.Words.{spread}
+use Rattle.monomials.specs.Padded.{IsPadded, exponents, sixteen, zeros}
+use Rattle.monomials.proofs.Packing.{lanes_total}
 use Rattle.monomials.specs.declared.expo.Expo.TheInside.{Inside}
 use Rattle.monomials.proofs.Exponents.{take-zip_with, length-zip_with, get_or-zip_with, sum-zeros}
 
@@ -139,44 +141,45 @@ weighted-le (w ∷ ws) (e ∷ m) h =
 
 -- the padding adds nothing
 pub weighted-exponents : (e : Inside) (ws : List ℕ) → IsPadded e → length ws ≡ 16 →
-    weighted (take e.len ws) (exponents e) ≡ weighted ws e.exps
+    weighted (take e.len ws) (exponents e) ≡ weighted ws (spread e.words)
 weighted-exponents e ws h n =
     let f : ℕ → ℕ → ℕ = λ w m. w * m in
-    let zs : List ℕ = zip_with f ws e.exps in
+    let zs : List ℕ = zip_with f ws (spread e.words) in
     let rest : (k : ℕ) → get_or (drop e.len zs) k 0 ≡ 0 = λ k.
     get_or-drop e.len zs k 0 ∙
     elim (cases_lt (e.len + k) 16) [
-      | inr past ↦ get_or_past zs (e.len + k) 0 (omega (arith, length-zip_with f ws e.exps (n ∙ sym h.places)))
+      | inr past ↦ get_or_past zs (e.len + k) 0 (omega (arith, length-zip_with f ws (spread e.words) (n ∙ sym (sixteen e h))))
       | inl in' ↦
-          get_or-zip_with f ws e.exps (e.len + k) (n ∙ sym h.places) (omega arith)
+          get_or-zip_with f ws (spread e.words) (e.len + k) (n ∙ sym (sixteen e h)) (omega arith)
           ∙ (ap (λ x. get_or ws (e.len + k) 0 * x) (h.padding (e.len + k) (omega arith)) ∙ omega arith)
     ] in
     let z : sum (drop e.len zs) ≡ 0 = ap sum (zeros (drop e.len zs) rest) ∙ sum-zeros (length (drop e.len zs)) in
-    ap sum (sym (take-zip_with f e.len ws e.exps)) ∙ omega (arith, sum_by-take-drop (λ x. x) zs e.len)
+    ap sum (sym (take-zip_with f e.len ws (spread e.words))) ∙ omega (arith, sum_by-take-drop (λ x. x) zs e.len)
 
 -- one more place in the sum of weight times exponent
 module _ (e : Inside) (ws : List ℕ) (i : ℕ) (h : IsPadded e) (n : length ws ≡ 16) (below : i < 16) where
-  all_zip : length (zip_with (λ w m. w * m) ws e.exps) ≡ 16
-  all_zip = length-zip_with (λ w m. w * m) ws e.exps (n ∙ sym h.places) ∙ n
+  all_zip : length (zip_with (λ w m. w * m) ws (spread e.words)) ≡ 16
+  all_zip = length-zip_with (λ w m. w * m) ws (spread e.words) (n ∙ sym (sixteen e h)) ∙ n
 
-  place_is : get_or (zip_with (λ w m. w * m) ws e.exps) i 0 ≡ get_or ws i 0 * get_or e.exps i 0
-  place_is = get_or-zip_with (λ w m. w * m) ws e.exps i (n ∙ sym h.places) (omega (arith, n))
+  place_is : get_or (zip_with (λ w m. w * m) ws (spread e.words)) i 0 ≡ get_or ws i 0 * get_or (spread e.words) i 0
+  place_is = get_or-zip_with (λ w m. w * m) ws (spread e.words) i (n ∙ sym (sixteen e h)) (omega (arith, n))
 
   -- the sum so far
-  pub weighted_step : sum (take (i + 1) (zip_with (λ w m. w * m) ws e.exps))
-      ≡ sum (take i (zip_with (λ w m. w * m) ws e.exps)) + get_or ws i 0 * get_or e.exps i 0
+  pub weighted_step : sum (take (i + 1) (zip_with (λ w m. w * m) ws (spread e.words)))
+      ≡ sum (take i (zip_with (λ w m. w * m) ws (spread e.words))) + get_or ws i 0 * get_or (spread e.words) i 0
   weighted_step =
-      sum_by_more (λ x. x) (zip_with (λ w m. w * m) ws e.exps) i 0 (omega (arith, all_zip))
-      ∙ ap (λ x. sum (take i (zip_with (λ w m. w * m) ws e.exps)) + x) place_is
+      sum_by_more (λ x. x) (zip_with (λ w m. w * m) ws (spread e.words)) i 0 (omega (arith, all_zip))
+      ∙ ap (λ x. sum (take i (zip_with (λ w m. w * m) ws (spread e.words))) + x) place_is
 
   -- it fits 32 bits
   pub weighted_fits : ((k : ℕ) → get_or ws k 0 ≤ 65535) →
-      sum (take i (zip_with (λ w m. w * m) ws e.exps)) + get_or ws i 0 * get_or e.exps i 0 ≤ 2147385345
+      sum (take i (zip_with (λ w m. w * m) ws (spread e.words))) + get_or ws i 0 * get_or (spread e.words) i 0 ≤ 2147385345
   weighted_fits small =
       omega (
         arith,
-        sum_by_more_le (λ x. x) (zip_with (λ w m. w * m) ws e.exps) i 0 (omega (arith, all_zip)),
+        sum_by_more_le (λ x. x) (zip_with (λ w m. w * m) ws (spread e.words)) i 0 (omega (arith, all_zip)),
         place_is,
-        weighted-le ws e.exps small,
+        weighted-le ws (spread e.words) small,
+        lanes_total e h,
         h.small,
       )

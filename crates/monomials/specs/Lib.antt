@@ -1,4 +1,6 @@
 pub mod Monomials
+pub mod Words
+pub mod Masks
 pub mod Orders
 pub mod Blocks
 pub mod Polynomials

@@ -1,19 +1,24 @@
-//! Monomials as exponents.
+//! Monomials as exponents, four in each word.
 
-ghost use Rattle.std.specs.Prelude.{◌≡◌, ◌+◌, ◌-◌, ◌≤◌, ◌<◌, ◌↔◌, IsTrue, nat_eq, length, sum, take, slice_index};
+ghost use Rattle.std.specs.Prelude.{◌≡◌, ◌+◌, ◌-◌, ◌*◌, ◌^◌, ◌≤◌, ◌<◌, ◌↔◌, ◌++◌, ℕ, IsTrue, nat_eq, length, sum, take, replicate, slice_index};
+ghost use Rattle.std.specs.Int.{bit_at};
 ghost use Rattle.std.specs.Cmp.Lexicographic.{pointwise};
 ghost use Rattle.std.specs.Cmp.{partial_equiv_from_equiv};
 ghost use Rattle.std.proofs.lemmas.Cmp.{nat_list_eq_equiv};
-ghost use Rattle.monomials.specs.Monomials.{degree, plus, minus, lcm, divides, one, variable};
+ghost use Rattle.monomials.specs.Monomials.{degree, plus, minus, lcm, divides, one, power, variable};
+ghost use Rattle.monomials.specs.Words.{spread};
+ghost use Rattle.monomials.specs.Masks.{nibble, mask};
 ghost use Rattle.monomials.specs.Rows.{weighted};
 
+use crate::word::{at_lane, greater_lanes, lane, lanes_divide, pack, total};
 use std::marker::Model;
 
 /// A monomial in 1 to 16 variables: its exponents, whose sum is at most 32767.
 #[derive(Clone, Copy, Debug, Eq)]
 pub struct Expo {
-    // The places past `len` are zero.
-    exps: [u16; 16],
+    // Four exponents in each word, the first lowest. The lanes past `len` are zero.
+    words: [u64; 4],
+    degree: u16,
     len: u8,
 }
 
@@ -42,7 +47,7 @@ impl PartialEq for Expo {
         ensures eq { result ≡ pointwise nat_eq self.now other.now }
         ensures same { IsTrue result ↔ (self.now ≡ other.now) }
     {
-        self.exps == other.exps && self.len == other.len
+        self.words == other.words && self.len == other.len
     }
 }
 
@@ -54,7 +59,8 @@ impl Expo {
         ensures { result ≡ one n }
     {
         Expo {
-            exps: [0; 16],
+            words: [0; 4],
+            degree: 0,
             len: n as u8,
         }
     }
@@ -66,9 +72,25 @@ impl Expo {
         requires last { v ≤ n }
         ensures { result ≡ variable n v }
     {
-        let mut exps = [0; 16];
-        exps[v as usize - 1] = 1;
-        Expo { exps, len: n as u8 }
+        Expo::power(n, v, 1)
+    }
+
+    /// The power `x_v^e` as a monomial in `n` variables, which count from 1.
+    pub fn power(n: usize, v: u8, e: u16) -> Expo
+        requires fits { n ≤ 16 }
+        requires first { 1 ≤ v }
+        requires last { v ≤ n }
+        requires small { e ≤ 32767 }
+        ensures { result ≡ power n v e }
+    {
+        let place = v - 1;
+        let mut words = [0; 4];
+        words[usize::from(place / 4)] = at_lane(e, place % 4);
+        Expo {
+            words,
+            degree: e,
+            len: n as u8,
+        }
     }
 
     /// The monomial with these exponents.
@@ -82,8 +104,10 @@ impl Expo {
         for i in 0..exps.len() {
             places[i] = exps[i];
         }
+        let words = pack(&places);
         Expo {
-            exps: places,
+            words,
+            degree: total(&words),
             len: exps.len() as u8,
         }
     }
@@ -104,7 +128,7 @@ impl Expo {
         requires last { v ≤ length self.now }
         ensures { result ≡ slice_index self.now (v - 1) }
     {
-        self.exps[v as usize - 1]
+        self.at(v - 1)
     }
 
     /// The total degree.
@@ -112,11 +136,7 @@ impl Expo {
         ensures value { result ≡ degree self.now }
         ensures small { result ≤ 32767 }
     {
-        let mut degree = 0;
-        for exponent in &self.exps {
-            degree += u32::from(*exponent);
-        }
-        degree
+        u32::from(self.degree)
     }
 
     /// The product.
@@ -125,12 +145,14 @@ impl Expo {
         requires small { degree self.now + degree other.now ≤ 32767 }
         ensures { result ≡ plus self.now other.now }
     {
-        let mut exps = self.exps;
-        for i in 0..16 {
-            exps[i] += other.exps[i];
-        }
         Expo {
-            exps,
+            words: [
+                self.words[0] + other.words[0],
+                self.words[1] + other.words[1],
+                self.words[2] + other.words[2],
+                self.words[3] + other.words[3],
+            ],
+            degree: self.degree + other.degree,
             len: self.len,
         }
     }
@@ -141,12 +163,14 @@ impl Expo {
         requires divisible { IsTrue (divides other.now self.now) }
         ensures { result ≡ minus self.now other.now }
     {
-        let mut exps = self.exps;
-        for i in 0..16 {
-            exps[i] -= other.exps[i];
-        }
         Expo {
-            exps,
+            words: [
+                self.words[0] - other.words[0],
+                self.words[1] - other.words[1],
+                self.words[2] - other.words[2],
+                self.words[3] - other.words[3],
+            ],
+            degree: self.degree - other.degree,
             len: self.len,
         }
     }
@@ -157,12 +181,15 @@ impl Expo {
         requires small { degree self.now + degree other.now ≤ 32767 }
         ensures { result ≡ lcm self.now other.now }
     {
-        let mut exps = self.exps;
-        for i in 0..16 {
-            exps[i] = exps[i].max(other.exps[i]);
-        }
+        let words = [
+            greater_lanes(self.words[0], other.words[0]),
+            greater_lanes(self.words[1], other.words[1]),
+            greater_lanes(self.words[2], other.words[2]),
+            greater_lanes(self.words[3], other.words[3]),
+        ];
         Expo {
-            exps,
+            words,
+            degree: total(&words),
             len: self.len,
         }
     }
@@ -172,11 +199,33 @@ impl Expo {
         requires { length self.now ≡ length other.now }
         ensures { result ≡ divides self.now other.now }
     {
-        let mut divides = true;
-        for i in 0..16 {
-            divides &= self.exps[i] <= other.exps[i];
+        lanes_divide(self.words[0], other.words[0])
+            & lanes_divide(self.words[1], other.words[1])
+            & lanes_divide(self.words[2], other.words[2])
+            & lanes_divide(self.words[3], other.words[3])
+    }
+
+    /// The words that hold it: the exponent of `x_v` stands in the word `(v-1)/4`, at the bits from
+    /// `16*((v-1)%4)` on.
+    pub fn words(&self) -> [u64; 4]
+        ensures { spread result ≡ self.now ++ replicate (16 - length self.now) 0 }
+    {
+        self.words
+    }
+
+    /// Four bits for each variable: the bit `4*(v-1)+t`, for `t` from 0 to 3, is set exactly where the
+    /// exponent of `x_v` is at least `2^t`. A divisor's mask has no bit that the other's lacks, so two
+    /// masks tell of most monomials at once that they don't divide.
+    pub fn mask(&self) -> u64
+        ensures value { result ≡ mask self.now }
+        ensures bits { (v t : ℕ) → 1 ≤ v → v ≤ length self.now → t ≤ 3 →
+            (bit_at result (4 * (v - 1) + t) ≡ 1) ↔ (2 ^ t ≤ slice_index self.now (v - 1)) }
+    {
+        let mut mask = 0;
+        for place in (0..self.len).rev() {
+            mask = mask * 16 + nibble(self.at(place));
         }
-        divides
+        mask
     }
 
     // The exponent of the variable behind the first `place`.
@@ -184,7 +233,7 @@ impl Expo {
         requires { place < length self.now }
         ensures { result ≡ slice_index self.now place }
     {
-        self.exps[place as usize]
+        lane(self.words[usize::from(place / 4)], place % 4)
     }
 
     // The sum of weight times exponent.
@@ -193,9 +242,22 @@ impl Expo {
     {
         let mut total = 0;
         for i in 0..16 {
-            total += u32::from(weights[i]) * u32::from(self.exps[i]);
+            total += u32::from(weights[i]) * u32::from(lane(self.words[i / 4], (i % 4) as u8));
         }
         total
+    }
+}
+
+// Whether an exponent is at least 1, 2, 4 and 8, from the lowest bit on.
+fn nibble(exponent: u16) -> u64
+    ensures { result ≡ nibble exponent }
+{
+    match exponent {
+        0 => 0,
+        1 => 1,
+        2..=3 => 3,
+        4..=7 => 7,
+        _ => 15,
     }
 }
 
@@ -204,18 +266,29 @@ mod tests {
     use super::*;
 
     #[test]
-    fn exponents(rt: HostRuntime) {
-        let x = Expo::var(3, 1);
-        let z = Expo::var(3, 3);
-        let a = Expo::of(&[2, 1, 0]);
-        let b = a.plus(&z);
-        assert_eq!(rt; b, Expo::of(&[2, 1, 1]));
-        assert_eq!(rt; b.len(), 3);
-        assert_eq!(rt; b.degree(), 4);
-        assert_eq!(rt; [b.get(1), b.get(2), b.get(3)], [2, 1, 1]);
-        assert_eq!(rt; a.lcm(&Expo::of(&[1, 3, 0])), Expo::of(&[2, 3, 0]));
-        assert_eq!(rt; b.minus(&x), Expo::of(&[1, 1, 1]));
-        assert!(rt; x.divides(&a) && !z.divides(&a));
+    fn words_and_masks(rt: HostRuntime) {
+        let a = Expo::of(&[1, 2, 3]);
+        assert_eq!(rt; a.words(), [12885032961, 0, 0, 0]);
+        assert_eq!(rt; a.mask(), 817);
+        assert_eq!(rt; [a.len(), a.degree() as usize], [3, 6]);
+        assert_eq!(rt; [a.get(1), a.get(2), a.get(3)], [1, 2, 3]);
         assert_ne!(rt; Expo::one(2), Expo::one(3));
+    }
+
+    // Each variable of sixteen, with the greatest exponent.
+    #[test]
+    fn all_lanes(rt: HostRuntime) {
+        for v in 1..=16 {
+            let x = Expo::var(16, v);
+            let high = Expo::power(16, v, 32767);
+            let rest = Expo::power(16, v, 32766);
+            assert_eq!(rt; x.plus(&rest), high);
+            assert_eq!(rt; high.minus(&rest), x);
+            assert_eq!(rt; [high.get(v), high.get(17 - v)], [32767, 0]);
+            assert!(rt; x.divides(&high) && !high.divides(&rest));
+            assert_eq!(rt; high.mask(), 15 << (4 * u32::from(v - 1)));
+            let both = rest.lcm(&Expo::var(16, 17 - v));
+            assert_eq!(rt; both.degree(), 32767);
+        }
     }
 }

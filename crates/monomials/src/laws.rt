@@ -1,9 +1,11 @@
 //! Laws of orders and polynomials, each the contract of a function without a body.
 
-ghost use Rattle.std.specs.Prelude.{◌≡◌, ℕ, List, ℤ, length};
+ghost use Rattle.std.specs.Prelude.{◌≡◌, ℕ, List, ℤ, IsTrue, length};
+ghost use Rattle.std.specs.Int.Bits.{bit_and};
 ghost use Rattle.std.specs.Cmp.{IsTotalOrder};
 ghost use Rattle.std.specs.declared.cmp.Ordering.TheVariants.{Equal};
-ghost use Rattle.monomials.specs.Monomials.{Monomial, plus};
+ghost use Rattle.monomials.specs.Monomials.{Monomial, plus, divides};
+ghost use Rattle.monomials.specs.Masks.{mask};
 ghost use Rattle.monomials.specs.Orders.{RowOrder, order_cmp};
 ghost use Rattle.monomials.specs.declared.order.Block.{Block};
 ghost use Rattle.monomials.specs.Blocks.{AreWeighted, Covers, order_of};
@@ -39,6 +41,12 @@ pub fn order_is_well_founded(order: &Order)
 pub fn blocks_are_well_founded()
     ensures { (n : ℕ) (blocks : List Block) (extra : List (List ℕ)) → Covers n blocks → AreWeighted blocks →
         IsWellFounded (with_rows extra (order_of n blocks)) }
+{}
+
+/// The mask of a divisor has no bit that the other's lacks.
+pub fn masks_divide()
+    ensures { (a b : Monomial) → length a ≡ length b → IsTrue (divides a b) →
+        bit_and (mask a) (mask b) ≡ mask a }
 {}
 
 /// Sorted polynomials with the same number at each monomial are equal.

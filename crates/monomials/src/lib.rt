@@ -10,3 +10,4 @@ mod order;
 mod row;
 #[cfg(test)]
 mod tests;
+mod word;

@@ -1,21 +1,30 @@
-use Rattle.std.proofs.Common.{◌∙◌, ◌≡◌, List, ℕ, take, sym, ap, nat_le, get_or, arith, ◌&&◌}
-use Rattle.std.proofs.lemmas.List.{take_all}
-use Rattle.monomials.proofs.Exponents.{divides-take, divides-places, same_places}
+use Rattle.monomials.proofs.Packing.{lanes_small, divides_result}
 use Rattle.monomials.proofs.expo.Expo.divides.Goals as goal
 
-pub loop-i-preserved : goal.loop-i-preserved
-loop-i-preserved c =
-    let xs : List ℕ = c.self.inside.exps in
-    let ys : List ℕ = c.other.inside.exps in
-    ap (λ b. b && nat_le (get_or xs c.loop-i.i 0) (get_or ys c.loop-i.i 0)) c.loop-i.invariant
-    ∙ sym (divides-take c.loop-i.i xs ys
-    (same_places c.self.inside c.other.inside _ _ c.self.invariant c.other.invariant c.self.view_is c.other.view_is c.requires)
-    (omega arith))
+pub lanes_divide-requires-clause-left : goal.lanes_divide-requires-clause-left
+lanes_divide-requires-clause-left c = lanes_small c.self.inside c.self.invariant 0
+
+pub lanes_divide-requires-clause-right : goal.lanes_divide-requires-clause-right
+lanes_divide-requires-clause-right c = lanes_small c.other.inside c.other.invariant 0
+
+pub lanes_divide-requires-2-clause-left : goal.lanes_divide-requires-2-clause-left
+lanes_divide-requires-2-clause-left c = lanes_small c.self.inside c.self.invariant 1
+
+pub lanes_divide-requires-2-clause-right : goal.lanes_divide-requires-2-clause-right
+lanes_divide-requires-2-clause-right c = lanes_small c.other.inside c.other.invariant 1
+
+pub lanes_divide-requires-3-clause-left : goal.lanes_divide-requires-3-clause-left
+lanes_divide-requires-3-clause-left c = lanes_small c.self.inside c.self.invariant 2
+
+pub lanes_divide-requires-3-clause-right : goal.lanes_divide-requires-3-clause-right
+lanes_divide-requires-3-clause-right c = lanes_small c.other.inside c.other.invariant 2
+
+pub lanes_divide-requires-4-clause-left : goal.lanes_divide-requires-4-clause-left
+lanes_divide-requires-4-clause-left c = lanes_small c.self.inside c.self.invariant 3
+
+pub lanes_divide-requires-4-clause-right : goal.lanes_divide-requires-4-clause-right
+lanes_divide-requires-4-clause-right c = lanes_small c.other.inside c.other.invariant 3
 
 pub returns : goal.returns
 returns c =
-    let left : take c.loop-i.i c.self.inside.exps ≡ c.self.inside.exps = take_all c.loop-i.i c.self.inside.exps (omega arith) in
-    let right : take c.loop-i.i c.other.inside.exps ≡ c.other.inside.exps = take_all c.loop-i.i c.other.inside.exps (omega arith) in
-    c.loop-i.invariant
-    ∙ (rw (left, right)
-    (divides-places c.self.inside c.other.inside _ _ c.self.invariant c.other.invariant c.self.view_is c.other.view_is c.requires))
+    divides_result c.self.inside c.other.inside _ _ c.self.invariant c.other.invariant c.self.view_is c.other.view_is c.requires _ _ _ _ c.lanes_divide.ensures c.lanes_divide-2.ensures c.lanes_divide-3.ensures c.lanes_divide-4.ensures

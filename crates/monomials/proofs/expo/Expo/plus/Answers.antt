@@ -1,24 +1,21 @@
-use Rattle.std.proofs.Common.{ℕ, ◌≤◌, ◌+◌, arith, refl, ap, sum}
-use Rattle.monomials.proofs.Exponents.{padded_by, exponents_are, sum-zip_with-le, sum-exponents}
+use Rattle.std.proofs.Common.{arith}
+use Rattle.monomials.proofs.Packing.{plus_at, plus_padded, plus_is}
 use Rattle.monomials.proofs.expo.Expo.plus.Goals as goal
 
+pub overflow_add-result : goal.overflow_add-result
+overflow_add-result c = omega (arith, (plus_at c.self.inside c.other.inside _ _ c.self.invariant c.other.invariant c.self.view_is c.other.view_is c.requires.same_length c.requires.small 0).0)
+
+pub overflow_add-result-2 : goal.overflow_add-result-2
+overflow_add-result-2 c = omega (arith, (plus_at c.self.inside c.other.inside _ _ c.self.invariant c.other.invariant c.self.view_is c.other.view_is c.requires.same_length c.requires.small 1).0)
+
+pub overflow_add-result-3 : goal.overflow_add-result-3
+overflow_add-result-3 c = omega (arith, (plus_at c.self.inside c.other.inside _ _ c.self.invariant c.other.invariant c.self.view_is c.other.view_is c.requires.same_length c.requires.small 2).0)
+
+pub overflow_add-result-4 : goal.overflow_add-result-4
+overflow_add-result-4 c = omega (arith, (plus_at c.self.inside c.other.inside _ _ c.self.invariant c.other.invariant c.self.view_is c.other.view_is c.requires.same_length c.requires.small 3).0)
+
 pub invariant_of-result : goal.invariant_of-result
-invariant_of-result c =
-    let le : (x y : ℕ) → x + y ≤ x + y = λ x y. omega arith in
-    padded_by c.self.inside c.other.inside _ _ c.self.invariant c.other.invariant c.self.view_is c.other.view_is
-    c.requires.same_length (λ x y. x + y) c.loop-i.exps c.loop-i.invariant.places
-    (λ k l. c.loop-i.invariant.done k (omega arith)) refl
-    (omega (
-      arith,
-      sum-zip_with-le (λ x y. x + y) c.self.inside.exps c.other.inside.exps le,
-      sum-exponents c.self.inside c.self.invariant,
-      sum-exponents c.other.inside c.other.invariant,
-      ap sum c.self.view_is,
-      ap sum c.other.view_is,
-    ))
+invariant_of-result c = plus_padded c.self.inside c.other.inside _ _ c.self.invariant c.other.invariant c.self.view_is c.other.view_is c.requires.same_length c.requires.small
 
 pub returns : goal.returns
-returns c =
-    exponents_are c.self.inside c.other.inside _ _ c.self.invariant c.other.invariant c.self.view_is c.other.view_is
-    c.requires.same_length (λ x y. x + y) c.loop-i.exps c.loop-i.invariant.places
-    (λ k l. c.loop-i.invariant.done k (omega arith))
+returns c = plus_is c.self.inside c.other.inside _ _ c.self.invariant c.other.invariant c.self.view_is c.other.view_is c.requires.same_length c.requires.small

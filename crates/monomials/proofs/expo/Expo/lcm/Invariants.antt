@@ -1,9 +1,0 @@
-use Rattle.std.proofs.Common.{◌≡◌, ℕ, max, ◌<◌, ◌≤◌, get_or, length}
-use Rattle.monomials.proofs.expo.Expo.lcm.Given as goal
-
-abbrev pub invariant-loop-i : goal.invariant-loop-i
-invariant-loop-i l = record {
-  places : length l.exps ≡ 16;
-  done : (k : ℕ) → k < l.i → get_or l.exps k 0 ≡ max (get_or l.self-inside.exps k 0) (get_or l.other-inside.exps k 0);
-  rest : (k : ℕ) → l.i ≤ k → get_or l.exps k 0 ≡ get_or l.self-inside.exps k 0;
-}

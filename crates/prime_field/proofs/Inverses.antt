@@ -3,7 +3,7 @@ use Rattle.std.proofs.Common.{◌≡◌, refl, Bool, true, false, ◌==◌, if�
 use Rattle.std.proofs.Math.Nat.{div-add-mod', mod-lt, mod-eq_of_lt, add-mul-mod_self_right}
 use Rattle.std.proofs.lemmas.Bool.{cases_lt}
 use Rattle.std.proofs.lemmas.Bool.Decides.{nat_tests}
-use Rattle.std.proofs.lemmas.Nat.{mul-mod_second, mul-le}
+use Rattle.std.proofs.lemmas.Nat.{mul-mod_first, mul-mod_second, mul-le}
 use Rattle.prime_field.specs.Modular.{IsPrime, inverse, inverse_from}
 
 -- numbers that differ by multiples of p have the same remainder
@@ -102,3 +102,15 @@ found_from p a c h is below b (suc k) whole low =
 pub inverse_is : (p a c : ℕ) → IsPrime p → (a * c) % p ≡ 1 → c < p → c ≡ inverse p a
 unfolding inverse
 inverse_is p a c h is below = found_from p a c h is below 0 p (omega arith) (omega arith)
+
+-- the product with the quotient is the number that was divided
+pub quotient_times : (p a b c : ℕ) → (b * c) % p ≡ 1 → a < p → (b * ((a * c) % p)) % p ≡ a
+quotient_times p a b c unit below =
+    let turned : b * (a * c) ≡ (b * c) * a = omega arith in
+    let once : 1 * a ≡ a = omega arith in
+    mul-mod_second b (a * c) p
+    ∙ ap (λ x. x % p) turned
+    ∙ sym (mul-mod_first (b * c) a p)
+    ∙ ap (λ x. (x * a) % p) unit
+    ∙ ap (λ x. x % p) once
+    ∙ mod-eq_of_lt below

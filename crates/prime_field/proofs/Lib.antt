@@ -1,3 +1,4 @@
 pub mod Euclid
 pub mod Inverses
 pub mod Table
+pub mod Powers

@@ -30,3 +30,7 @@ inverse_from p a b (suc k) = if (a * b) % p == 1 then b else inverse_from p a (s
 -- the inverse modulo p: the number below p whose product with a is 1
 unfoldable pub inverse : ℕ → ℕ → ℕ
 inverse p a = inverse_from p a 0 p
+
+-- the number a / b
+abbrev pub quotient : ℕ → ℕ → ℕ → ℕ
+quotient p a b = (a * inverse p b) % p

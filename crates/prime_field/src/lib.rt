@@ -1,8 +1,8 @@
 //! The fields of integers modulo a prime, for the primes of a fixed table.
 #![tactic(auto)]
 
-ghost use Rattle.std.specs.Prelude.{◌≡◌, ◌≢◌, ℕ, ◌+◌, ◌-◌, ◌*◌, ◌%◌, ◌<◌, ◌↔◌, false, IsTrue, IsOk, IfOk, IfErr};
-ghost use Rattle.prime_field.specs.Modular.{in_table, IsPrime, inverse, symmetric};
+ghost use Rattle.std.specs.Prelude.{◌≡◌, ◌≢◌, ℕ, ◌+◌, ◌-◌, ◌*◌, ◌%◌, ◌^◌, ◌<◌, ◌↔◌, false, IsTrue, IsOk, IfOk, IfErr};
+ghost use Rattle.prime_field.specs.Modular.{in_table, IsPrime, inverse, quotient, symmetric};
 
 use std::marker::Model;
 
@@ -142,6 +142,38 @@ impl Field {
         }
         factor
     }
+
+    /// The quotient `a / b`, for nonzero `b`: the element whose product with `b` is `a`.
+    pub fn div(self, a: u32, b: u32) -> u32
+        requires a_in_range { a < self }
+        requires b_in_range { b < self }
+        requires not_zero { b ≢ 0 }
+        ensures value { result ≡ quotient self a b }
+        ensures product { (b * result) % self ≡ a }
+        ensures in_range { result < self }
+        ensures not_zero { 0 < a → 0 < result }
+    {
+        self.mul(a, self.inv(b))
+    }
+
+    /// The power of an element, in a number of products that is logarithmic in the exponent. The
+    /// power with exponent 0 is 1, also of zero.
+    pub fn pow(self, a: u32, exponent: u32) -> u32
+        requires { a < self }
+        ensures value { result ≡ a ^ exponent % self }
+        ensures in_range { result < self }
+    {
+        let _p = self.p();
+        let (mut square, mut rest, mut power) = (a, exponent, 1);
+        while rest > 0 {
+            if rest % 2 == 1 {
+                power = self.mul(power, square);
+            }
+            square = self.mul(square, square);
+            rest /= 2;
+        }
+        power
+    }
 }
 
 #[cfg(test)]
@@ -178,6 +210,10 @@ mod tests {
         assert_eq!(rt; field.neg(0), 0);
         assert_eq!(rt; field.neg(3), 4);
         assert_eq!(rt; field.from_int(u64::MAX), 1);
+        assert_eq!(rt; field.div(3, 5), 2);
+        for (exponent, want) in [(0, 1), (1, 3), (5, 5), (u32::MAX, 6)] {
+            assert_eq!(rt; field.pow(3, exponent), want, "3 to the power {exponent}");
+        }
         for (a, want) in [(0, 0), (3, 3), (4, -3), (6, -1)] {
             assert_eq!(rt; field.symmetric(a), want, "at {a}");
         }

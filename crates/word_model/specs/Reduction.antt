@@ -1,6 +1,6 @@
 -- Reduction of a polynomial by a list of polynomials, with its trace.
 use Rattle.std.specs.Prelude.{ℕ, zero, suc, ◌+◌, ◌*◌, ◌-◌, ◌^◌, ◌%◌, max, nat_le, Bool, true, false, List, [], ◌∷◌, length, drop, slice_index_or, Option, Some, None, if◌then◌else◌}
-use Rattle.prime_field.specs.Modular.{inverse}
+pub use Rattle.prime_field.specs.Modular.{quotient}
 use Rattle.monomials.specs.Monomials.{Monomial, degree, minus, divides}
 use Rattle.monomials.specs.Orders.{order_cmp}
 use Rattle.monomials.specs.Polynomials.{Polynomial, poly_sub, poly_degree}
@@ -22,10 +22,6 @@ least_number test i (suc k) = if test i then Some i else least_number test (suc 
 -- the number of the first element whose leading monomial divides m
 abbrev pub first_divisor : List Polynomial → Monomial → Option ℕ
 first_divisor G m = least_number (λ i. lead_divides (element G i) m) 1 (length G)
-
--- the number a / b
-abbrev pub quotient : ℕ → ℕ → ℕ → ℕ
-quotient p a b = (a * inverse p b) % p
 
 -- c m g
 abbrev pub multiple : Algebra → ℕ → Monomial → Polynomial → Polynomial

@@ -5,3 +5,4 @@ pub mod Multiples
 pub mod Merging
 pub mod Reordering
 pub mod InPlace
+pub mod Gathered

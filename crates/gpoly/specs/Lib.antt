@@ -1,2 +1,4 @@
 pub mod Terms
 pub mod Sorting
+pub mod Sums
+pub mod Leads

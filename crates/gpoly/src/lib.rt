@@ -13,10 +13,13 @@ use prime_field::Field;
 use std::alloc::{AllocError, Global};
 use std::marker::Model;
 
+mod buckets;
 mod merge;
 mod sums;
 #[cfg(test)]
 mod tests;
+
+pub use buckets::Buckets;
 
 /// A number times a monomial.
 #[derive(Clone, Copy, Debug, PartialEq, Eq)]

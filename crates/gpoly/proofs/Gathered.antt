@@ -6,19 +6,18 @@ use Rattle.std.proofs.lemmas.List.{length-set, get_or-set_other}
 use Rattle.std.specs.Cmp.{IsTotalOrder}
 use Rattle.monomials.specs.Monomials.{Monomial}
 use Rattle.monomials.specs.Orders.{RowOrder, order_cmp}
-use Rattle.monomials.specs.Polynomials.{Polynomial, Each, HasVars, HasNumbers, IsAbove, IsCanonical, IsPolynomial, cons_nonzero, poly_add}
-use Rattle.monomials.specs.Leading.{leading_coefficient}
+use Rattle.monomials.specs.Polynomials.{Polynomial, Each, IsAbove, IsPolynomial, cons_nonzero, poly_add}
 use Rattle.monomials.proofs.Keys.{Each-append}
 use Rattle.monomials.proofs.Modulo.{Same, same_refl, same_add, same_cancel, same_mul_right, same_rest}
 use Rattle.monomials.proofs.Weights.{weigh, weigh-cons_nonzero, weigh-poly_add}
-use Rattle.monomials.proofs.Canonical.{turn_back, ties_itself, same_poly, IsCanonical-cons_nonzero, IsCanonical-poly_add}
+use Rattle.monomials.proofs.Canonical.{turn_back, ties_itself, same_poly, IsCanonical-cons_nonzero}
 use Rattle.monomials.proofs.Merge.{IsAbove-poly_add}
 use Rattle.monomials.proofs.OrderLaws.{order_cmp_total, order_cmp_tied}
 use Rattle.monomials.proofs.Operations.{IsPolynomial-poly_add}
 use Rattle.gpoly.specs.Terms.{IsTermList}
 use Rattle.gpoly.specs.Sums.{poly_sum, AreSorted}
 use Rattle.gpoly.proofs.Lists.{Each-get_or}
-use Rattle.gpoly.specs.Leads.{greater_lead, greatest_lead, leads_with, number_at, numbers_from, without, IsLead}
+use Rattle.gpoly.specs.Leads.{greater_lead, greatest_lead, number_at, numbers_from, without}
 
 -- the weight of all of them
 abbrev pub weigh_all : (Monomial → ℕ) → List Polynomial → ℕ
@@ -321,18 +320,17 @@ module _ (p : ℕ) (order : RowOrder) (pos : 0 < p) where
       let old_is : IsPolynomial p order old = Each-get_or (IsPolynomial p order) fs k d l h in
       let new : Polynomial = poly_add cmp p old f in
       let sorted : AreSorted p order (set fs k new) = Each-set (IsPolynomial p order) fs k new h (IsPolynomial-poly_add p order pos old f old_is f_is) in
-      let both : IsPolynomial p order (poly_add cmp p (poly_sum cmp p fs) f) = IsPolynomial-poly_add p order pos (poly_sum cmp p fs) f (IsPolynomial-poly_sum fs h) f_is in
-      (
+      let both : IsPolynomial p order (poly_add cmp p (poly_sum cmp p fs) f) = IsPolynomial-poly_add p order pos (poly_sum cmp p fs) f (IsPolynomial-poly_sum fs h) f_is in (
         sorted,
         same_poly cmp total tied p _ _ (IsPolynomial-poly_sum (set fs k new) sorted).canonical both.canonical
-        (λ φ.
-        let a : ℕ = weigh_all φ (set fs k new) in
-        let exact : weigh φ old + a ≡ weigh_all φ fs + weigh φ new = omega (arith, weigh_all-set φ fs k new d l) in
-        let e : weigh_all φ fs + (weigh φ old + weigh φ f) ≡ weigh φ old + (weigh_all φ fs + weigh φ f) = omega arith in
-        weigh-poly_sum φ (set fs k new)
-        ∙ same_cancel p (weigh φ old) _ _ pos
-        (same_refl p _ _ exact ∙ same_add p (weigh_all φ fs) _ _ _ refl (weigh-poly_add cmp tied p φ old f) ∙ same_refl p _ _ e)
-        ∙ sym (weigh-poly_add cmp tied p φ (poly_sum cmp p fs) f ∙ same_add p _ _ (weigh φ f) _ (weigh-poly_sum φ fs) refl)),
+            (λ φ.
+            let a : ℕ = weigh_all φ (set fs k new) in
+            let exact : weigh φ old + a ≡ weigh_all φ fs + weigh φ new = omega (arith, weigh_all-set φ fs k new d l) in
+            let e : weigh_all φ fs + (weigh φ old + weigh φ f) ≡ weigh φ old + (weigh_all φ fs + weigh φ f) = omega arith in
+            weigh-poly_sum φ (set fs k new)
+            ∙ same_cancel p (weigh φ old) _ _ pos
+            (same_refl p _ _ exact ∙ same_add p (weigh_all φ fs) _ _ _ refl (weigh-poly_add cmp tied p φ old f) ∙ same_refl p _ _ e)
+            ∙ sym (weigh-poly_add cmp tied p φ (poly_sum cmp p fs) f ∙ same_add p _ _ (weigh φ f) _ (weigh-poly_sum φ fs) refl)),
       )
 
   -- the element k is added to the element j, and is zero then
@@ -348,16 +346,15 @@ module _ (p : ℕ) (order : RowOrder) (pos : 0 < p) where
       let half : AreSorted p order (set fs j new) = Each-set (IsPolynomial p order) fs j new h new_is in
       let sorted : AreSorted p order (set (set fs j new) k []) = Each-set (IsPolynomial p order) (set fs j new) k [] half (record { canonical = tt; vars = tt }) in
       let still : get_or (set fs j new) k d ≡ low = get_or-set_other fs j k new d differ in
-      let inside : k < length (set fs j new) = omega (arith, length-set fs j new) in
-      (
+      let inside : k < length (set fs j new) = omega (arith, length-set fs j new) in (
         sorted,
         same_sum (set (set fs j new) k []) fs sorted h
-        (λ φ.
-        let a : ℕ = weigh_all φ (set (set fs j new) k []) in
-        let w : weigh φ (get_or (set fs j new) k d) ≡ weigh φ low = ap (weigh φ) still in
-        let exact : (weigh φ low + weigh φ high) + a ≡ weigh_all φ fs + weigh φ new =
-        omega (arith, w, weigh_all-set φ (set fs j new) k [] d inside, weigh_all-set φ fs j new e l') in
-        let back : weigh_all φ fs + (weigh φ low + weigh φ high) ≡ (weigh φ low + weigh φ high) + weigh_all φ fs = omega arith in
-        same_cancel p (weigh φ low + weigh φ high) _ _ pos
-        (same_refl p _ _ exact ∙ same_add p (weigh_all φ fs) _ _ _ refl (weigh-poly_add cmp tied p φ low high) ∙ same_refl p _ _ back)),
+            (λ φ.
+            let a : ℕ = weigh_all φ (set (set fs j new) k []) in
+            let w : weigh φ (get_or (set fs j new) k d) ≡ weigh φ low = ap (weigh φ) still in
+            let exact : (weigh φ low + weigh φ high) + a ≡ weigh_all φ fs + weigh φ new =
+            omega (arith, w, weigh_all-set φ (set fs j new) k [] d inside, weigh_all-set φ fs j new e l') in
+            let back : weigh_all φ fs + (weigh φ low + weigh φ high) ≡ (weigh φ low + weigh φ high) + weigh_all φ fs = omega arith in
+            same_cancel p (weigh φ low + weigh φ high) _ _ pos
+            (same_refl p _ _ exact ∙ same_add p (weigh_all φ fs) _ _ _ refl (weigh-poly_add cmp tied p φ low high) ∙ same_refl p _ _ back)),
       )

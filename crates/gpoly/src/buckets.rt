@@ -58,7 +58,7 @@ impl Buckets {
             ≡ poly_sum (order_cmp order.now.rows) field self.old }
         ensures lead { MatchOption result (poly_sum (order_cmp order.now.rows) field self.new ≡ [])
             (λ t. poly_sum (order_cmp order.now.rows) field self.new
-                ≡ pair_of t ∷ drop 1 (poly_sum (order_cmp order.now.rows) field self.new)) }
+            ≡ pair_of t ∷ drop 1 (poly_sum (order_cmp order.now.rows) field self.new)) }
     {
         self.lead(field, order)
     }
@@ -69,9 +69,9 @@ impl Buckets {
         ensures sorted { AreSorted field order.now self.new }
         ensures lead { MatchOption result
             (poly_sum (order_cmp order.now.rows) field self.old ≡ []
-                × poly_sum (order_cmp order.now.rows) field self.new ≡ [])
+            × poly_sum (order_cmp order.now.rows) field self.new ≡ [])
             (λ t. poly_sum (order_cmp order.now.rows) field self.old
-                ≡ pair_of t ∷ poly_sum (order_cmp order.now.rows) field self.new) }
+            ≡ pair_of t ∷ poly_sum (order_cmp order.now.rows) field self.new) }
     {
         let _p = field.p();
         let term = self.lead(field, order)?;
@@ -173,7 +173,13 @@ impl Buckets {
     }
 
     // Makes empty buckets up to bucket k.
-    fn reach(&mut self, alloc: Global, field: Field, order: &Order, k: usize) -> Result<(), AllocError>
+    fn reach(
+        &mut self,
+        alloc: Global,
+        field: Field,
+        order: &Order,
+        k: usize,
+    ) -> Result<(), AllocError>
         requires sorted { AreSorted field order.now self.old }
         ensures sorted { AreSorted field order.now self.new }
         ensures value { poly_sum (order_cmp order.now.rows) field self.new
@@ -187,7 +193,13 @@ impl Buckets {
     }
 
     // Adds bucket k to the next one.
-    fn raise(&mut self, alloc: Global, field: Field, order: &Order, k: usize) -> Result<(), AllocError>
+    fn raise(
+        &mut self,
+        alloc: Global,
+        field: Field,
+        order: &Order,
+        k: usize,
+    ) -> Result<(), AllocError>
         requires sorted { AreSorted field order.now self.old }
         requires inside { k + 1 < length self.old }
         ensures sorted { AreSorted field order.now self.new }

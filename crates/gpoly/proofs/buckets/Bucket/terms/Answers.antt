@@ -1,4 +1,4 @@
-use Rattle.std.proofs.Common.{length, drop, sym, ap, ◌∙◌, subst}
+use Rattle.std.proofs.Common.{drop, sym, ap, ◌∙◌, subst}
 use Rattle.std.proofs.lemmas.List.{drop-map, take_rest}
 use Rattle.gpoly.specs.Terms.{pair_of, pairs_of, IsTermList}
 use Rattle.gpoly.proofs.Gathered.{IsTermList-drop}

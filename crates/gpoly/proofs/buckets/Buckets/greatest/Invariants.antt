@@ -1,4 +1,4 @@
-use Rattle.std.proofs.Common.{◌≡◌, drop, length, Option, Some, None, MatchOption}
+use Rattle.std.proofs.Common.{◌≡◌, drop, length, None, MatchOption}
 use Rattle.monomials.specs.Orders.{order_cmp}
 use Rattle.gpoly.specs.Leads.{greatest_lead}
 use Rattle.gpoly.proofs.buckets.Buckets.greatest.Given as goal

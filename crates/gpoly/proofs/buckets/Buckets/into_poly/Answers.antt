@@ -1,7 +1,6 @@
-use Rattle.std.proofs.Common.{◌≡◌, ◌<◌, drop, sym, ◌∙◌, subst, arith}
-use Rattle.monomials.specs.Orders.{order_cmp}
+use Rattle.std.proofs.Common.{drop, sym, subst, arith}
 use Rattle.monomials.specs.Polynomials.{IsPolynomial}
-use Rattle.gpoly.specs.Sums.{poly_sum, AreSorted}
+use Rattle.gpoly.specs.Sums.{AreSorted}
 use Rattle.gpoly.proofs.Gathered.{IsPolynomial-poly_sum, Each-drop}
 use Rattle.gpoly.proofs.buckets.Buckets.into_poly.Goals as goal
 use Rattle.gpoly.proofs.buckets.Buckets.into_poly.Goals.{At-loop-k}

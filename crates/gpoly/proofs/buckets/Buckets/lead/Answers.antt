@@ -1,10 +1,10 @@
-use Rattle.std.proofs.Common.{◌≡◌, ◌≢◌, ◌<◌, List, [], map, Some, None, sym, ap, ◌∙◌, subst, arith}
+use Rattle.std.proofs.Common.{◌≡◌, ◌<◌, map, sym, ap, ◌∙◌, subst, arith}
 use Rattle.monomials.specs.Orders.{order_cmp}
-use Rattle.monomials.specs.Polynomials.{Polynomial, Each, HasVars, IsPolynomial, cons_nonzero}
+use Rattle.monomials.specs.Polynomials.{IsPolynomial, cons_nonzero}
 use Rattle.monomials.proofs.Keys.{Each-weaker}
 use Rattle.monomials.proofs.Insertion.{cons_nonzero-positive}
 use Rattle.gpoly.specs.Sums.{poly_sum, AreSorted}
-use Rattle.gpoly.specs.Leads.{greatest_lead, numbers_from, without}
+use Rattle.gpoly.specs.Leads.{without}
 use Rattle.gpoly.proofs.Gathered.{terms_in, AreSorted-without, sum_at, greatest-at_least, greatest-none, fewer_terms}
 use Rattle.gpoly.proofs.buckets.Buckets.lead.Goals as goal
 use Rattle.gpoly.proofs.buckets.Buckets.lead.Goals.{After-number_at-coef}

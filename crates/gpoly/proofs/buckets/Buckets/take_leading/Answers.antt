@@ -1,4 +1,4 @@
-use Rattle.std.proofs.Common.{◌<◌, sym, subst, arith}
+use Rattle.std.proofs.Common.{sym, subst, arith}
 use Rattle.gpoly.specs.Sums.{AreSorted}
 use Rattle.gpoly.proofs.Gathered.{AreSorted-without}
 use Rattle.gpoly.proofs.buckets.Buckets.take_leading.Goals as goal

@@ -4,7 +4,7 @@ use Rattle.std.specs.Ordering.{is_lt}
 use Rattle.monomials.specs.Monomials.{Monomial}
 use Rattle.monomials.specs.Orders.{order_cmp}
 use Rattle.monomials.specs.Polynomials.{Polynomial, IsPolynomial, Each, poly_degree}
-use Rattle.word_model.specs.Words.{Algebra, Word, WordSum, c_of, d_of, monomial_of, sorted_word, word_value, RewritesDown}
+use Rattle.word_model.specs.Words.{Algebra, Word, WordSum, c_of, d_of, pair_monomial, sorted_word, word_value, RewritesDown}
 
 -- a condition that fails, with the numbers of its variables
 pub data Fault : Type 0 where
@@ -18,7 +18,7 @@ pub data Fault : Type 0 where
 -- d is zero, or its leading monomial is below x_i x_j
 abbrev pub is_below : Algebra → ℕ → ℕ → Polynomial → Bool
 is_below A i j [] = true
-is_below A i j (t ∷ f) = is_lt (order_cmp A.order.rows t.1 (monomial_of A.order.vars (i ∷ j ∷ [])))
+is_below A i j (t ∷ f) = is_lt (order_cmp A.order.rows t.1 (pair_monomial A.order.vars i j))
 
 -- c_ij is not zero, then d_ij has degree at most 2, then it is below x_i x_j
 abbrev pub pair_fault : Algebra → ℕ → ℕ → Option Fault

@@ -4,6 +4,7 @@ use Rattle.prime_field.specs.Modular.{inverse}
 use Rattle.monomials.specs.Polynomials.{Polynomial, poly_scale, Each, IsPolynomial}
 use Rattle.monomials.specs.Leading.{leading_coefficient}
 use Rattle.word_model.specs.Words.{Algebra}
+pub use Rattle.word_model.specs.Limits.{most_elements}
 use Rattle.word_model.specs.Reduction.{Reduced, reduce}
 use Rattle.word_model.specs.Jobs.{without, job_sugar, element_sugar, least_job, start_of, chain_witness, IsJob, NamesNonzero, AreSugars}
 use Rattle.word_model.specs.declared.records.Job.{Job}
@@ -32,10 +33,6 @@ pub record Journal : Type 0 where
 pub data Turn : Type 0 where
   On : State → Turn
   Over : Outcome → Turn
-
--- the most elements that a basis may have
-abbrev pub most_elements : ℕ
-most_elements = 2048
 
 -- the pairs of the elements 1 to k with the element of number m
 abbrev pub pairs_with : ℕ → ℕ → List Job

@@ -2,12 +2,11 @@
 use Rattle.std.specs.Prelude.{ℕ, zero, suc, ◌-◌, Bool, false, ◌==◌, List, [], ◌∷◌, ◌++◌, map, codes, slice_index_or, if◌then◌else◌}
 use Rattle.std.specs.List.{join_with_byte}
 use Rattle.std.specs.Fmt.{decimal}
-use Rattle.monomials.specs.Monomials.{plus, variable}
 use Rattle.monomials.specs.Orders.{order_cmp}
 use Rattle.monomials.specs.Polynomials.{Polynomial, poly_add}
 use Rattle.monomials.specs.declared.order.Block.{Block}
 use Rattle.monomials.specs.declared.order.Block.TheVariants.{Extra, Lex, DegRev, DegLex, WeightRev, WeightLex}
-use Rattle.word_model.specs.Words.{Algebra, c_of, d_of}
+use Rattle.word_model.specs.Words.{Algebra, pair_monomial, c_of, d_of}
 use Rattle.word_model.specs.Texts.{polynomial_text}
 
 -- numbers with `,` between them, in brackets
@@ -35,7 +34,7 @@ name_of names v = slice_index_or names (v - 1) []
 abbrev pub right_side : Algebra → ℕ → ℕ → Polynomial
 right_side A i j =
     poly_add (order_cmp A.order.rows) A.p
-    ((c_of A i j, plus (variable A.order.vars i) (variable A.order.vars j)) ∷ []) (d_of A i j)
+    ((c_of A i j, pair_monomial A.order.vars i j) ∷ []) (d_of A i j)
 
 -- whether x_j x_i = c x_i x_j + d says that the two commute
 abbrev pub is_commuting : ℕ → Polynomial → Bool

@@ -53,6 +53,10 @@ counts_from i (suc n) w = count_of i w ∷ counts_from (suc i) n w
 abbrev pub monomial_of : ℕ → Word → Monomial
 monomial_of n w = counts_from 1 n w
 
+-- x_i x_j, as a monomial
+abbrev pub pair_monomial : ℕ → ℕ → ℕ → Monomial
+pair_monomial n i j = monomial_of n (i ∷ j ∷ [])
+
 -- the word of a monomial whose first exponent is that of variable i
 abbrev pub word_from : ℕ → Monomial → Word
 word_from i [] = []
@@ -122,7 +126,7 @@ word_value A f = sum_over (order_cmp A.order.rows) A.p (normal_form A) f
 abbrev pub IsSmall : Algebra → ℕ → ℕ → ℕ × Monomial → Type 0
 IsSmall A i j t =
     (length t.1 ≡ A.order.vars) × (degree t.1 ≤ 2)
-    × (order_cmp A.order.rows t.1 (monomial_of A.order.vars (i ∷ j ∷ [])) ≡ Less)
+    × (order_cmp A.order.rows t.1 (pair_monomial A.order.vars i j) ≡ Less)
 
 -- rewriting leads downwards at each pair: what the recursion of normal forms needs
 pub record RewritesDown (A : Algebra) : Type 0 where

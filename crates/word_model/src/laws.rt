@@ -1,15 +1,26 @@
 //! Laws of words and products, each the contract of a function without a body.
 
-ghost use Rattle.std.specs.Prelude.{◌≡◌, ◌≢◌, ℕ, ◌+◌, ◌<◌, ◌≤◌, ◌⊎◌, List, [], ◌∷◌, ◌++◌, length, Option, Some, None};
+ghost use Rattle.std.specs.Prelude.{◌≡◌, ◌≢◌, ℕ, suc, ◌+◌, ◌-◌, ◌*◌, ◌<◌, ◌≤◌, ◌⊎◌, List, [], ◌∷◌, ◌++◌, length, Option, Some, None};
 ghost use Rattle.prime_field.specs.Modular.{IsPrime};
 ghost use Rattle.monomials.specs.Monomials.{Monomial, degree, plus, variable};
 ghost use Rattle.monomials.specs.Orders.{order_cmp};
-ghost use Rattle.monomials.specs.Polynomials.{Polynomial, HasVars, IsPolynomial, poly_add, poly_degree, poly_scale};
-ghost use Rattle.word_model.specs.Words.{Algebra, Word, WordSum, IsWord, monomial_of, sorted_word, Descent, leftmost_descent, rewritten, normal_form, word_value, RewritesDown};
+ghost use Rattle.monomials.specs.Polynomials.{Polynomial, HasVars, IsPolynomial, poly_add, poly_degree, poly_scale, poly_sub, sum_over};
+ghost use Rattle.word_model.specs.Words.{Algebra, Word, WordSum, IsWord, pair_index, pair_monomial, monomial_of, sorted_word, Descent, leftmost_descent, rewritten, normal_form, word_value, RewritesDown};
 ghost use Rattle.monomials.specs.Leading.{leading_monomial};
-ghost use Rattle.word_model.specs.Conditions.{Fault, pair_fault, triple_fault, first_from, relations_fault, NonZero, IsField, HasNonzeroNumbers, IsAlgebraData, IsGAlgebra};
+ghost use Rattle.word_model.specs.Conditions.{Fault, pair_fault, triple_fault, triple_rest, first_from, relations_fault, NonZero, IsField, HasNonzeroNumbers, IsAlgebraData, IsGAlgebra};
 ghost use Rattle.word_model.specs.Products.{product, letters_product, times_letters};
 ghost use Rattle.word_model.specs.Scripts.{two_variables};
+
+/// The number of a pair is its place in lexicographic order: the first pair has the number 0, and each
+/// pair the number after that of the one before, whose row it shares or ends.
+pub fn pair_numbers()
+    ensures first { (n : ℕ) → pair_index n 1 2 ≡ 0 }
+    ensures next { (n i j : ℕ) → 1 ≤ i → i < j → j < n →
+        pair_index n i (suc j) ≡ suc (pair_index n i j) }
+    ensures next_row { (n i : ℕ) → 1 ≤ i → i + 2 ≤ n →
+        pair_index n (i + 1) (i + 2) ≡ suc (pair_index n i n) }
+    ensures last { (n : ℕ) → 2 ≤ n → 2 * suc (pair_index n (n - 1) n) ≡ n * (n - 1) }
+{}
 
 /// The sorted words are the words without a descent, one for each monomial.
 pub fn sorted_word_form()
@@ -20,6 +31,8 @@ pub fn sorted_word_form()
         sorted_word (monomial_of n w) ≡ w }
     ensures sorted_length { (m : Monomial) → length (sorted_word m) ≡ degree m }
     ensures word_degree { (n : ℕ) (w : Word) → IsWord n w → degree (monomial_of n w) ≡ length w }
+    ensures pair { (n i j : ℕ) → 1 ≤ i → i ≤ n → 1 ≤ j → j ≤ n →
+        pair_monomial n i j ≡ plus (variable n i) (variable n j) }
 {}
 
 /// The recursion of normal forms, where rewriting leads downwards at each pair of variables, as it
@@ -31,6 +44,28 @@ pub fn rewriting()
         IsWord A.order.vars w → leftmost_descent w ≡ Some s →
         normal_form A w ≡ word_value A (rewritten A s) }
     ensures two_variables { (p c e : ℕ) → RewritesDown (two_variables p c e) }
+{}
+
+/// Where rewriting leads downwards, the normal form is the only function on words that gives a word
+/// without a descent its monomial, and another the sum of its values at the words that the leftmost
+/// descent is rewritten to.
+pub fn only_normal_form()
+    ensures { (A : Algebra) (value : Word → Polynomial) → RewritesDown A →
+        ((w : Word) → IsWord A.order.vars w → leftmost_descent w ≡ None →
+        value w ≡ (1, monomial_of A.order.vars w) ∷ []) →
+        ((w : Word) (s : Descent) → IsWord A.order.vars w → leftmost_descent w ≡ Some s →
+        value w ≡ sum_over (order_cmp A.order.rows) A.p value (rewritten A s)) →
+        (w : Word) → IsWord A.order.vars w → value w ≡ normal_form A w }
+{}
+
+/// The rest of a triple i < j < k is the difference of the two rewritings of x_k x_j x_i: the value of
+/// the words that x_k x_j is rewritten to, less that of the words that x_j x_i is rewritten to.
+pub fn triple_rests()
+    ensures { (A : Algebra) (i j k : ℕ) → 1 < A.p → RewritesDown A → 1 ≤ i → i < j → j < k →
+        k ≤ A.order.vars →
+        triple_rest A i j k ≡ poly_sub (order_cmp A.order.rows) A.p
+        (word_value A (rewritten A (record { before = []; high = k; low = j; after = i ∷ [] })))
+        (word_value A (rewritten A (record { before = k ∷ []; high = j; low = i; after = [] }))) }
 {}
 
 /// Normal forms of words and of sums of words, and products, are polynomials of the algebra.

@@ -4,7 +4,7 @@ use Rattle.monomials.specs.Monomials.{Monomial, degree, plus, variable}
 use Rattle.monomials.specs.Orders.{RowOrder, order_cmp}
 use Rattle.monomials.specs.Polynomials.{Polynomial, cons_nonzero, from_terms, poly_add}
 use Rattle.monomials.proofs.Exponents.{degree-plus, length-zip_with}
-use Rattle.word_model.specs.Words.{Algebra, c_of, d_of}
+use Rattle.word_model.specs.Words.{Algebra, pair_monomial, c_of, d_of}
 use Rattle.word_model.specs.RingTexts.{right_side}
 use Rattle.word_model.proofs.Associativity.{length-variable}
 use Rattle.word_model.proofs.TermProducts.{degree-variable}
@@ -31,11 +31,11 @@ one_term rows p zero m below nonzero = absurd (nonzero refl)
 one_term rows p (suc c) m below nonzero = ap (λ k. cons_nonzero k m []) (mod-eq_of_lt below)
 
 pub right_side-made : (A : Algebra) (i j : ℕ) (order order' : RowOrder) (p p' c : ℕ) (m : Monomial) (first d : Polynomial)
-    → order ≡ A.order → order' ≡ A.order → p ≡ A.p → p' ≡ A.p → c ≡ c_of A i j → m ≡ plus (variable A.order.vars i) (variable A.order.vars j)
+    → order ≡ A.order → order' ≡ A.order → p ≡ A.p → p' ≡ A.p → c ≡ c_of A i j → m ≡ pair_monomial A.order.vars i j
     → first ≡ from_terms (order_cmp order.rows) p ((c, m) ∷ []) → d ≡ d_of A i j → c_of A i j < A.p → c_of A i j ≢ 0
     → poly_add (order_cmp order'.rows) p' first d ≡ right_side A i j
 right_side-made A i j order order' p p' c m first d o o' f f' number mono made rest below nonzero =
-    let pair : Monomial = plus (variable A.order.vars i) (variable A.order.vars j) in
+    let pair : Monomial = pair_monomial A.order.vars i j in
     let leading : first ≡ (c_of A i j, pair) ∷ [] =
     made
     ∙ ((λ t. from_terms (order_cmp (o t).rows) (f t) ((number t, mono t) ∷ []))

@@ -4,6 +4,7 @@ use Rattle.monomials.specs.Monomials.{plus, degree}
 use Rattle.monomials.specs.Orders.{RowOrder}
 use Rattle.word_model.specs.Words.{Algebra, c_of}
 use Rattle.word_model.proofs.Acceptance.{c_of-below, IsPolynomial-d_of}
+use Rattle.word_model.proofs.PairMonomials.{pair_monomial_is}
 use Rattle.plural_text.proofs.RightSides.{length-pair, degree-pair, pair_made, right_side-made}
 use Rattle.plural_text.proofs.rings.right_side.Goals as goal
 
@@ -34,7 +35,8 @@ returns-clause-value c =
     IfOk-weaker c.add.result _ _
     (λ r is. is ∙ right_side-made A c.args.i c.args.j _ _ _ _ c.c.result c.plus.result c.in_ok-leading.leading c.d.result.now
     c.order.ensures c.order-2.ensures c.field.ensures c.field-2.ensures c.c.ensures
-    (pair_made A.order.vars c.n-n.result c.args.i c.args.j c.var.result c.var-2.result c.plus.result c.n-n.ensures.value c.var.ensures c.var-2.ensures c.plus.ensures)
+    (pair_made A.order.vars c.n-n.result c.args.i c.args.j c.var.result c.var-2.result c.plus.result c.n-n.ensures.value c.var.ensures c.var-2.ensures c.plus.ensures
+    ∙ sym (pair_monomial_is A.order.vars c.args.i c.args.j c.requires.first (omega arith) (omega arith) c.requires.last))
     c.in_ok-leading.ensures.value c.d.ensures
     (c_of-below A c.n-n.ensures.data (omega (arith, c.n-n.ensures.prime.above_one)) c.args.i c.args.j) nonzero)
     c.add.ensures.value

@@ -1,5 +1,5 @@
 -- An order with a row in front, as code keeps it.
-use Rattle.std.proofs.Common.{◌≡◌, ℕ, List, [], ◌∷◌, map, sym, ◌∙◌, ap, subst, pos}
+use Rattle.std.proofs.Common.{◌≡◌, true, false, ℕ, List, [], ◌∷◌, map, sym, ◌∙◌, ap, subst, pos}
 use Rattle.std.proofs.lemmas.List.Elements.{All-cons}
 use Rattle.monomials.specs.Separating.{IsSeparating}
 use Rattle.monomials.specs.Lexicographic.{IsLexicographic}
@@ -20,11 +20,12 @@ module _ (o new : Inside) (row : Row) (ws : List ℕ) (same : new.vars ≡ o.var
       λ i. record { vars = same i; rows = rows i }
 
   -- and what holds of orders holds of it
-  pub with_row_kept : IsOrder o → IsWithin o.vars row → IsOrder new
-  with_row_kept h within = record {
+  pub with_row_kept : IsOrder o → IsWithin o.vars row → new.graded ≡ false → IsOrder new
+  with_row_kept h within by_rows = record {
     not_empty = rw same h.not_empty;
     fits = rw same h.fits;
     within = rw (same, items) (All-cons (IsWithin o.vars) row o.rows.items within h.within);
     separates = subst IsSeparating (sym kept_with_row) (separates_with_rows (ws ∷ []) (kept_order o) h.separates);
     lexicographic = subst IsLexicographic (sym kept_with_row) (rows_lexicographic (ws ∷ []) (kept_order o) h.lexicographic);
+    graded = λ t. let f : false ≡ true = sym by_rows ∙ t in cc;
   }

@@ -11,6 +11,7 @@ pub mod Exponents
 pub mod Lanes
 pub mod Masks
 pub mod Packing
+pub mod WholeWords
 pub mod RowValues
 pub mod GradedRows
 pub mod Placing

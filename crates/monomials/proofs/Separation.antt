@@ -16,16 +16,11 @@ use Rattle.monomials.specs.Separating.{IsSeparating}
 use Rattle.monomials.specs.ExtraRows.{with_rows}
 use Rattle.monomials.specs.declared.order.Block.{Block}
 use Rattle.monomials.specs.declared.order.Block.TheVariants.{Extra, Lex, DegRev, DegLex, WeightRev, WeightLex}
-use Rattle.monomials.proofs.GradedRows.{IsPositive, rising_equal, graded_rising_equal, graded_falling_equal, ones_row, ones_positive}
+use Rattle.monomials.proofs.GradedRows.{then_equal, IsPositive, rising_equal, graded_rising_equal, graded_falling_equal, ones_row, ones_positive}
 
 -- the rows of `dp` in two variables
 pub dp_two : (order_of 2 (DegRev 2 ∷ [])).rows ≡ (pos 1 ∷ pos 1 ∷ []) ∷ (pos 0 ∷ negsuc 0 ∷ []) ∷ []
 dp_two = refl
-
-then_equal : (o p : Ordering) → ordering_then o p ≡ Equal → (o ≡ Equal) × (p ≡ Equal)
-then_equal Less p e = cc
-then_equal Equal p e = (refl, e)
-then_equal Greater p e = cc
 
 then_tied : (o p : Ordering) → (o ≡ Equal → p ≡ Equal) → ordering_then o p ≡ o
 then_tied Less p h = refl

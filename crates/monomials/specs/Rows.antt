@@ -1,8 +1,8 @@
 -- The rows of an order as code keeps them.
-use Rattle.std.specs.Prelude.{◌≡◌, ℕ, ◌≤◌, ◌<◌, ◌*◌, Bool, true, false, cond, List, ◌++◌, map, take, sum, All, ℤ, pos, negsuc, neg_ℤ}
+use Rattle.std.specs.Prelude.{◌≡◌, ℕ, ◌≤◌, ◌<◌, ◌*◌, Bool, true, false, IsTrue, cond, List, ◌++◌, map, take, sum, All, ℤ, pos, negsuc, neg_ℤ}
 use Rattle.monomials.specs.Monomials.{Monomial, zip_with}
 use Rattle.monomials.specs.Orders.{RowOrder}
-use Rattle.monomials.specs.Blocks.{row_of}
+use Rattle.monomials.specs.Blocks.{row_of, dp_rows}
 use Rattle.monomials.specs.Separating.{IsSeparating}
 use Rattle.monomials.specs.Lexicographic.{IsLexicographic}
 use Rattle.monomials.specs.declared.row.Row.{Row}
@@ -44,10 +44,12 @@ pub record AddsRows (n : ℕ) (old new : List Row) (added : List (List ℤ)) : T
 abbrev pub kept_order : Inside → RowOrder
 kept_order o = record { vars = o.vars; rows = map (row_entries o.vars) o.rows.items }
 
--- an order in 1 to 16 variables, whose rows tell monomials in them apart, and which has no infinite descent
+-- an order in 1 to 16 variables, whose rows tell monomials in them apart, and which has no infinite descent;
+-- `graded` says that they are the rows of one `dp`
 pub record IsOrder (o : Inside) : Type 0 where
   pub not_empty : 1 ≤ o.vars
   pub fits : o.vars ≤ 16
   pub within : All (IsWithin o.vars) o.rows.items
   pub separates : IsSeparating (kept_order o)
   pub lexicographic : IsLexicographic (kept_order o)
+  pub graded : IsTrue o.graded → map (row_entries o.vars) o.rows.items ≡ dp_rows o.vars 0 o.vars

@@ -8,9 +8,12 @@ ghost use Rattle.std.proofs.lemmas.Cmp.{nat_list_eq_equiv};
 ghost use Rattle.monomials.specs.Monomials.{degree, plus, minus, lcm, divides, one, power, variable};
 ghost use Rattle.monomials.specs.Words.{spread};
 ghost use Rattle.monomials.specs.Masks.{nibble, mask};
+ghost use Rattle.monomials.specs.Orders.{rows_cmp};
+ghost use Rattle.monomials.specs.Blocks.{dp_rows};
 ghost use Rattle.monomials.specs.Rows.{weighted};
 
 use crate::word::{at_lane, greater_lanes, lane, lanes_divide, pack, total};
+use std::cmp::Ordering;
 use std::marker::Model;
 
 /// A monomial in 1 to 16 variables: its exponents, whose sum is at most 32767.
@@ -234,6 +237,20 @@ impl Expo {
         ensures { result ≡ slice_index self.now place }
     {
         lane(self.words[usize::from(place / 4)], place % 4)
+    }
+
+    // How it compares by `dp`: by degree, and then the less exponent of the last variable in which the
+    // two differ is the greater.
+    pub(crate) fn compare_graded(&self, other: &Expo) -> Ordering
+        requires { length self.now ≡ length other.now }
+        ensures { let n = length self.now in result ≡ rows_cmp (dp_rows n 0 n) self.now other.now }
+    {
+        self.degree
+            .cmp(&other.degree)
+            .then(other.words[3].cmp(&self.words[3]))
+            .then(other.words[2].cmp(&self.words[2]))
+            .then(other.words[1].cmp(&self.words[1]))
+            .then(other.words[0].cmp(&self.words[0]))
     }
 
     // The sum of weight times exponent.

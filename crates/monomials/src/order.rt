@@ -2,6 +2,7 @@
 
 ghost use Rattle.std.specs.Prelude.{◌≡◌, ℕ, List, [], ◌∷◌, ◌+◌, ◌≤◌, ◌<◌, ◌↔◌, Bool, All, IsTrue, IfOk, OnOk, length, map};
 ghost use Rattle.monomials.specs.Orders.{rows_cmp, order_cmp};
+ghost use Rattle.monomials.specs.declared.order.Block.TheVariants.{DegRev};
 ghost use Rattle.monomials.specs.Separating.{IsSeparating};
 ghost use Rattle.monomials.specs.WellFounded.{IsWellFounded};
 ghost use Rattle.monomials.specs.Blocks.{block_len, block_rows, first_first, last_first, is_extra, order_of, IsPart, HasWeights, AreWeighted, Covers};
@@ -61,6 +62,8 @@ impl From<AllocError> for OrderFault {
 pub struct Order {
     vars: usize,
     rows: Vec<Row>,
+    // Whether the rows are those of one `dp`, by which monomials compare without them.
+    graded: bool,
 }
 
 impl Model for Order {
@@ -202,6 +205,16 @@ fn covers(blocks: &[Block], n: usize) -> bool
     left == 0
 }
 
+// Whether they are one `dp` alone.
+fn is_graded(blocks: &[Block]) -> bool
+    ensures { IsTrue result → (len : ℕ) × (blocks.now ≡ DegRev len ∷ []) }
+{
+    match blocks {
+        [Block::DegRev { .. }] => true,
+        _ => false,
+    }
+}
+
 // Whether all weights are in range.
 fn are_weighted(blocks: &[Block]) -> bool
     ensures { IsTrue result ↔ AreWeighted blocks.now }
@@ -253,7 +266,11 @@ impl Order {
             block.push_rows(&mut rows, at, n)?;
             at += block.covered();
         }
-        Ok(Order { vars: n, rows })
+        Ok(Order {
+            vars: n,
+            rows,
+            graded: is_graded(blocks),
+        })
     }
 
     /// The order that first compares by how often these variables occur: one row in front, with 1 at
@@ -267,7 +284,11 @@ impl Order {
         let mut rows = Vec::new(alloc);
         rows.push(Row::marking(vars))?;
         rows.extend_from_slice(&self.rows)?;
-        Ok(Order { vars: n, rows })
+        Ok(Order {
+            vars: n,
+            rows,
+            graded: false,
+        })
     }
 
     /// The same order, in memory of its own.
@@ -278,6 +299,7 @@ impl Order {
         Ok(Order {
             vars: self.vars,
             rows,
+            graded: self.graded,
         })
     }
 
@@ -308,6 +330,9 @@ impl Order {
         ensures value { result ≡ order_cmp self.now.rows a.now b.now }
         ensures equal { result ≡ Ordering.Equal → a.now ≡ b.now }
     {
+        if self.graded {
+            return a.compare_graded(b);
+        }
         for row in &self.rows {
             match row.compare(a, b) {
                 Ordering::Equal => {}

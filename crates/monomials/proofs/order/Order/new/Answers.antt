@@ -6,6 +6,7 @@ use Rattle.monomials.proofs.Covering.{covers_here, covers_next}
 use Rattle.monomials.proofs.AddedRows.{adds_block, adds_blocks}
 use Rattle.monomials.proofs.Separation.{blocks_separate}
 use Rattle.monomials.proofs.LexicographicOrders.{blocks_lexicographic}
+use Rattle.monomials.proofs.WholeWords.{dp_alone}
 use Rattle.monomials.proofs.order.Order.new.Goals as goal
 
 pub loop-block-preserved : goal.loop-block-preserved
@@ -47,4 +48,5 @@ invariant_of-result c =
       within = done.1;
       separates = rw done.0 (blocks_separate n blocks covered weighted);
       lexicographic = rw done.0 (blocks_lexicographic n blocks weighted);
+      graded = λ t. let dp = c.is_graded.ensures t in done.0 ∙ dp_alone n blocks dp.0 dp.1 covered;
     }

@@ -1,4 +1,4 @@
-use Rattle.std.proofs.Common.{◌≡◌, ◌≤◌, ◌∙◌, ◌∷◌, ◌++◌, [], List, ap, sym, arith, pos, map}
+use Rattle.std.proofs.Common.{false, refl, ◌≡◌, ◌≤◌, ◌∙◌, ◌∷◌, ◌++◌, [], List, ap, sym, arith, pos, map}
 use Rattle.std.proofs.lemmas.List.Elements.{All-weaker}
 use Rattle.monomials.specs.Orders.{RowOrder}
 use Rattle.monomials.specs.ExtraRows.{marks, with_rows}
@@ -30,12 +30,12 @@ its_entries c =
 
 pub invariant_of-result : goal.invariant_of-result
 invariant_of-result c =
-    with_row_kept c.self.inside (record { vars = c.vars-n.result; rows = c.extend_from_slice.new.self }) c.marking.result
+    with_row_kept c.self.inside (record { vars = c.vars-n.result; rows = c.extend_from_slice.new.self; graded = false }) c.marking.result
     (marks c.args.self.now.vars c.args.vars.now) (its_vars c) (its_rows c) (its_entries c) c.self.invariant
-    (c.marking.ensures.within c.self.inside.vars)
+    (c.marking.ensures.within c.self.inside.vars) refl
 
 pub returns : goal.returns
 returns c =
-    kept_with_row c.self.inside (record { vars = c.vars-n.result; rows = c.extend_from_slice.new.self }) c.marking.result
+    kept_with_row c.self.inside (record { vars = c.vars-n.result; rows = c.extend_from_slice.new.self; graded = false }) c.marking.result
     (marks c.args.self.now.vars c.args.vars.now) (its_vars c) (its_rows c) (its_entries c)
     ∙ ap (with_rows (marks c.args.self.now.vars c.args.vars.now ∷ [])) c.self.view_is

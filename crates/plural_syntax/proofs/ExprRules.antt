@@ -1,14 +1,14 @@
 -- The rules of expressions: each is read and found as the grammar has it.
-use Rattle.std.proofs.Common.{◌≡◌, ℕ, zero, suc, Bool, true, false, [], ◌∷◌, ◌++◌, List, Option, Some, None, ◌⊎◌, inl, inr, refl, sym, ap, subst, ◌∙◌, append_assoc, append-nil}
+use Rattle.std.proofs.Common.{◌≡◌, ℕ, zero, suc, Bool, true, false, [], ◌∷◌, ◌++◌, List, Option, Some, None, inl, inr, refl, ap, subst, ◌∙◌, append_assoc, append-nil}
 use Rattle.std.specs.Option.{option_map}
 use Rattle.plural_lexer.specs.declared.token.Token.{Token}
 use Rattle.plural_syntax.specs.declared.word.Word.{Word}
 use Rattle.plural_syntax.specs.declared.word.Word.TheVariants as w
-use Rattle.plural_syntax.specs.Words.{Lexeme, word, is, is_either, head_is}
+use Rattle.plural_syntax.specs.Words.{Lexeme, word, is, is_either, head_is, names_function}
 use Rattle.plural_syntax.specs.Levels.{Step}
-use Rattle.plural_syntax.specs.Grammar.{Lang, Repeated, Optional, IsTokenAfter, IsTokenList, IsTokenGroup, IsIndex, IsPower, IsSumSign, IsBase, IsFactor, IsScaled, AreScaled, IsTerm, IsAdded, AreAdded, IsExpr, IsExprAfter, AreExprsAfter, IsList, IsExprPair}
+use Rattle.plural_syntax.specs.Grammar.{Lang, Repeated, Optional, IsTokenAfter, IsTokenList, IsTokenGroup, IsIndex, IsPower, IsBase, IsFactor, IsScaled, AreScaled, IsTerm, IsAdded, AreAdded, IsExpr, IsExprAfter, AreExprsAfter, IsList, IsExprPair}
 use Rattle.plural_syntax.specs.Grammar.Repeated.{no_more, one_more}
-use Rattle.plural_syntax.specs.Grammar.Optional.{absent, present}
+use Rattle.plural_syntax.specs.Grammar.Optional.{absent}
 use Rattle.plural_syntax.specs.Grammar.IsTokenAfter.{token_after as is_token_after}
 use Rattle.plural_syntax.specs.Grammar.IsTokenList.{token_list as is_token_list}
 use Rattle.plural_syntax.specs.Grammar.IsTokenGroup.{token_group as is_token_group}
@@ -26,6 +26,8 @@ use Rattle.plural_syntax.specs.Grammar.IsExprAfter.{expr_after}
 use Rattle.plural_syntax.specs.Grammar.AreExprsAfter.{no_expr, expr_more}
 use Rattle.plural_syntax.specs.Grammar.IsList.{list}
 use Rattle.plural_syntax.specs.Grammar.IsExprPair.{expr_pair}
+use Rattle.plural_syntax.specs.declared.tree.Function.{Function}
+use Rattle.plural_syntax.specs.declared.tree.FunctionName.{FunctionName}
 use Rattle.plural_syntax.specs.declared.tree.Base.{Base}
 use Rattle.plural_syntax.specs.declared.tree.Base.TheVariants as base
 use Rattle.plural_syntax.specs.declared.tree.Scaled.{Scaled}
@@ -42,14 +44,15 @@ use Rattle.plural_syntax.specs.declared.tree.TokenAfter.{TokenAfter}
 use Rattle.plural_syntax.specs.declared.tree.TokenList.{TokenList}
 use Rattle.plural_syntax.specs.declared.tree.TokenGroup.{TokenGroup}
 use Rattle.plural_syntax.specs.declared.tree.ExprPair.{ExprPair}
-use Rattle.plural_syntax.specs.Reading.{Parser, pure, ◌>>=◌, take, take_either, when, maybe, many, level, token_after, token_list, token_group, second, index, power, expr_after_with, list_with, pair_with, called_with, base_with, factor_with, scaled_with, term_with, added_with, sum_with, expr_with, resumed_with, expr, inside}
-use Rattle.plural_syntax.proofs.Words.{sample, word-sample, is_word, is_one_of_two}
-use Rattle.plural_syntax.proofs.Readers.{Begins, Seq, Takes, Nothing}
+use Rattle.plural_syntax.specs.Reading.{Parser, maybe, many, token_after, token_list, token_group, second, index, power, expr_after_with, list_with, pair_with, called_with, base_with, factor_with, scaled_with, term_with, added_with, sum_with, expr_with, resumed_with, expr, inside}
+use Rattle.plural_syntax.proofs.Words.{sample, word-sample, is_word, is_one_of_two, each_function}
+use Rattle.plural_syntax.proofs.Readers.{Begins, Seq, Takes, Names, Nothing}
 use Rattle.plural_syntax.proofs.Readers.Seq.{seq}
 use Rattle.plural_syntax.proofs.Readers.Takes.{takes}
+use Rattle.plural_syntax.proofs.Readers.Names.{names}
 use Rattle.plural_syntax.proofs.Readers.Nothing.{nothing}
 use Rattle.plural_syntax.proofs.Finders.{Or}
-use Rattle.plural_syntax.proofs.Rules.{Rule, Starts, Avoids, in_set, covers_is, covers_either, covers_set, apart_is, apart_either, rule_from, rule_more, rule_bind, rule_then, done, tok, yields, last, head_takes, into, rule_when, rule_many, rule_maybe, OneOf, rule_either, starts_takes, starts_either, avoids_nothing, avoids_many, avoids_maybe}
+use Rattle.plural_syntax.proofs.Rules.{Rule, Starts, Avoids, in_set, covers_is, covers_either, covers_set, apart_is, apart_either, rule_from, rule_more, rule_bind, rule_then, done, tok, yields, last, head_takes, into, rule_when, rule_many, rule_maybe, OneOf, rule_name, rule_either, starts_takes, starts_either, avoids_nothing, avoids_many, avoids_maybe}
 use Rattle.plural_syntax.proofs.Rules.OneOf.{one_of}
 use Rattle.plural_syntax.proofs.Strict.{strict, Levelled, Inner, rule_level, levelled_head}
 use Rattle.plural_syntax.proofs.Strict.Levelled.{levelled}
@@ -251,38 +254,43 @@ AsInt = Seq (Takes w.Int) (λ a. Nothing (base.Int a))
 abbrev pub AsName : Lang Base
 AsName = Seq (Takes w.Name) (λ a. Seq (Optional IsIndex) (λ i. Nothing (base.Name a i)))
 
-abbrev pub Called : Token → Lang Base
+abbrev pub Called : FunctionName → Lang Base
 Called f = Seq (Levelled IsList) (λ g. Nothing (base.Call f g.0 g.1 g.2))
 
 abbrev pub AsCall : Lang Base
-AsCall = Seq (OneOf w.Ideal w.Function) Called
+AsCall = Seq Names Called
 
 abbrev pub AsGroup : Lang Base
 AsGroup = Seq (Levelled IsExpr) (λ g. Nothing (base.Group g.0 g.1 g.2))
 
+abbrev pub named : Lexeme → Function → FunctionName
+named t f = record { token = t.token; function = f }
+
 to_base : (b : Base) (ls : List Lexeme) → Or AsInt (Or AsName (Or AsCall AsGroup)) b ls → IsBase b ls
 to_base _ _ (inl (seq _ _ _ _ (takes a h) nothing)) = int a h
 to_base _ _ (inr (inl (seq _ _ _ _ (takes a h) (seq i _ xs zs k n)))) = done (λ b q. IsBase b (a ∷ q)) _ _ xs zs n (name a i xs h k)
-to_base _ _ (inr (inr (inl (seq _ _ _ _ (one_of f h) (seq _ _ _ zs (levelled a b l ls i k m) n))))) = done (λ x q. IsBase x (f ∷ q)) _ _ (a ∷ (ls ++ b ∷ [])) zs n (call f a b l ls h i k m)
+to_base _ _ (inr (inr (inl (seq _ _ _ _ (names t f h) (seq _ _ _ zs (levelled a b l ls i k m) n))))) = done (λ x q. IsBase x (t ∷ q)) _ _ (a ∷ (ls ++ b ∷ [])) zs n (call t a b f l ls h i k m)
 to_base _ _ (inr (inr (inr (seq _ _ _ zs (levelled a b e es h k m) n)))) = done IsBase _ _ (a ∷ (es ++ b ∷ [])) zs n (group a b e es h k m)
 
 from_base : (b : Base) (ls : List Lexeme) → IsBase b ls → Or AsInt (Or AsName (Or AsCall AsGroup)) b ls
 from_base _ _ (int a h) = inl (tk a h nothing)
 from_base _ _ (name a i xs h k) = inr (inl (tk a h (fin _ k)))
-from_base _ _ (call f a b l ls h i k m) = inr (inr (inl (seq f.token _ (f ∷ []) (a ∷ (ls ++ b ∷ [])) (one_of f h) (fin _ (levelled a b l ls i k m)))))
+from_base _ _ (call t a b f l ls h i k m) = inr (inr (inl (seq (named t f) _ (t ∷ []) (a ∷ (ls ++ b ∷ [])) (names t f h) (fin _ (levelled a b l ls i k m)))))
 from_base _ _ (group a b e es h k m) = inr (inr (inr (fin _ (levelled a b e es h k m))))
 
-call_head : (t : Word → Bool) (c : Bool) → t w.Ideal ≡ c → t w.Function ≡ c → (b : Base) (xs rest : List Lexeme) → AsCall b xs → head_is t (xs ++ rest) ≡ c
-call_head t c e f _ _ rest (seq _ _ _ _ (one_of l (inl h)) s) = ap t h ∙ e
-call_head t c e f _ _ rest (seq _ _ _ _ (one_of l (inr h)) s) = ap t h ∙ f
+call_head : (t : Word → Bool) (c : Bool) → ((f : Function) → t (w.Function f) ≡ c) → (b : Base) (xs rest : List Lexeme) → AsCall b xs → head_is t (xs ++ rest) ≡ c
+call_head t c e _ _ rest (seq _ _ _ _ (names l f h) s) = ap t h ∙ e f
+
+call_starts : Starts names_function AsCall
+call_starts b xs rest r = call_head names_function true (λ f. refl) b xs rest r
 
 not_int : Avoids (is w.Int) (Or AsName (Or AsCall AsGroup)) goes_base
 not_int b xs rest (inl h) e = head_takes (is w.Int) w.Name false refl b xs rest h
-not_int b xs rest (inr (inl h)) e = call_head (is w.Int) false refl refl b xs rest h
+not_int b xs rest (inr (inl h)) e = call_head (is w.Int) false (each_function (λ f. is w.Int (w.Function f) ≡ false) refl refl refl refl refl refl refl refl refl refl) b xs rest h
 not_int b xs rest (inr (inr h)) e = levelled_head (is w.Int) false refl b xs rest h
 
 not_name : Avoids (is w.Name) (Or AsCall AsGroup) goes_base
-not_name b xs rest (inl h) e = call_head (is w.Name) false refl refl b xs rest h
+not_name b xs rest (inl h) e = call_head (is w.Name) false (each_function (λ f. is w.Name (w.Function f) ≡ false) refl refl refl refl refl refl refl refl refl refl) b xs rest h
 not_name b xs rest (inr h) e = levelled_head (is w.Name) false refl b xs rest h
 
 -- ---- what stands first
@@ -290,16 +298,14 @@ not_name b xs rest (inr h) e = levelled_head (is w.Name) false refl b xs rest h
 pub record Firsts (t : Word → Bool) (c : Bool) : Type 0 where
   pub at_int : t w.Int ≡ c
   pub at_name : t w.Name ≡ c
-  pub at_ideal : t w.Ideal ≡ c
-  pub at_function : t w.Function ≡ c
+  pub at_function : (f : Function) → t (w.Function f) ≡ c
   pub at_open : t w.Open ≡ c
 
 base_head : (t : Word → Bool) (c : Bool) → Firsts t c → (b : Base) (xs rest : List Lexeme) → IsBase b xs → head_is t (xs ++ rest) ≡ c
 base_head t c f _ _ rest (int a h) = ap t h ∙ f.at_int
 base_head t c f _ _ rest (name a i xs h k) = ap t h ∙ f.at_name
 base_head t c f _ _ rest (group a b e es h k m) = ap t h ∙ f.at_open
-base_head t c f _ _ rest (call g a b l ls (inl h) i k m) = ap t h ∙ f.at_ideal
-base_head t c f _ _ rest (call g a b l ls (inr h) i k m) = ap t h ∙ f.at_function
+base_head t c f _ _ rest (call n a b g l ls h i k m) = ap t h ∙ f.at_function g
 
 term_head : (t : Word → Bool) (c : Bool) → Firsts t c → (x : Term) (xs rest : List Lexeme) → IsTerm x xs → head_is t (xs ++ rest) ≡ c
 term_head t c f _ _ rest (term _ more _ ms (factor b p bs ps h k) m) = ap (head_is t) (append_assoc (bs ++ ps) ms rest ∙ append_assoc bs ps (ms ++ rest)) ∙ base_head t c f b bs (ps ++ (ms ++ rest)) h
@@ -390,7 +396,7 @@ from_expr _ _ (signed a t m ts ms i h k) = inl (seq a.token _ (a ∷ []) (ts ++ 
 from_expr _ _ (unsigned t m ts ms h k) = inr (seq t _ ts ms h (fin _ (from_all_added m ms k)))
 
 not_signed : Avoids (is_either w.Plus w.Minus) (Sums None) goes_expr
-not_signed _ _ rest (seq t _ ts ms h k) e = ap (head_is (is_either w.Plus w.Minus)) (append_assoc ts ms rest) ∙ term_head (is_either w.Plus w.Minus) false (record { at_int = refl; at_name = refl; at_ideal = refl; at_function = refl; at_open = refl }) t ts (ms ++ rest) h
+not_signed _ _ rest (seq t _ ts ms h k) e = ap (head_is (is_either w.Plus w.Minus)) (append_assoc ts ms rest) ∙ term_head (is_either w.Plus w.Minus) false (record { at_int = refl; at_name = refl; at_function = each_function (λ f. is_either w.Plus w.Minus (w.Function f) ≡ false) refl refl refl refl refl refl refl refl refl refl; at_open = refl }) t ts (ms ++ rest) h
 
 -- an expression without a sign, behind its first base
 abbrev pub resumed_expr : Base → Option Power → List Scaled → List Added → Expr
@@ -400,7 +406,7 @@ abbrev pub Resumed : Base → Lang Expr
 Resumed b = Seq (Optional IsPower) (λ p. Seq (Repeated IsScaled) (λ ts. Seq (Repeated IsAdded) (λ m. Nothing (resumed_expr b p ts m))))
 
 module _ (d : ℕ) (inner : Option (Parser Expr)) (i : Inner d inner IsExpr goes_expr) where
-  pub rule_called : (f : Token) → Rule strict d d (called_with inner f) (Called f) []
+  pub rule_called : (f : FunctionName) → Rule strict d d (called_with inner f) (Called f) []
   unfolding called_with
   rule_called f = last (rule_level d (option_map list_with inner) IsList goes_list refl (inner_list d inner i))
 
@@ -409,8 +415,8 @@ module _ (d : ℕ) (inner : Option (Parser Expr)) (i : Inner d inner IsExpr goes
   rule_base = rule_from IsBase to_base from_base
       (rule_when (is w.Int) (starts_takes w.Int) not_int (tok w.Int refl (λ a. yields))
       (rule_when (is w.Name) (starts_takes w.Name) not_name (tok w.Name refl (λ a. last (rule_maybe_index d)))
-      (rule_when (is_either w.Ideal w.Function) (starts_either w.Ideal w.Function) (λ b xs rest h e. levelled_head (is_either w.Ideal w.Function) false refl b xs rest h)
-      (rule_then (rule_either w.Ideal w.Function refl refl refl) (λ f. rule_more goes_base refl (rule_called f)))
+      (rule_when names_function call_starts (λ b xs rest h e. levelled_head names_function false refl b xs rest h)
+      (rule_then (rule_name (each_function (λ f. strict d (w.Function f) ≡ Some d) refl refl refl refl refl refl refl refl refl refl)) (λ f. rule_more goes_base refl (rule_called f)))
       (rule_more goes_base refl (last (rule_level d inner IsExpr goes_expr refl i))))))
 
   pub rule_factor : Rule strict d d (factor_with inner) IsFactor goes_factor

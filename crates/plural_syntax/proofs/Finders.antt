@@ -1,19 +1,21 @@
 -- What each way of joining parsers finds: the tree that the tokens spell, whatever follows that does not go on with it.
-use Rattle.std.proofs.Common.{◌≡◌, ℕ, ◌||◌, ◌⊎◌, inl, inr, Bool, true, false, cond, [], ◌∷◌, ◌++◌, List, length, Result, Ok, Err, Option, Some, None, refl, sym, ap, subst, ◌∙◌, append_assoc, append-nil}
+use Rattle.std.proofs.Common.{◌≡◌, ◌⊎◌, inl, inr, Bool, true, false, cond, [], ◌∷◌, ◌++◌, List, Ok, Err, Option, Some, None, refl, sym, ap, subst, ◌∙◌, append_assoc, append-nil}
 use Rattle.std.proofs.lemmas.Bool.{eq-eqb}
 use Rattle.plural_lexer.specs.declared.token.Token.{Token}
 use Rattle.plural_syntax.specs.declared.word.Word.{Word}
-use Rattle.plural_syntax.specs.Words.{Lexeme, word, number, is, head_is, next}
+use Rattle.plural_syntax.specs.declared.tree.FunctionName.{FunctionName}
+use Rattle.plural_syntax.specs.Words.{Lexeme, word, number, is, head_is, next, function_of}
 use Rattle.plural_syntax.specs.Levels.{Step}
 use Rattle.plural_syntax.specs.Grammar.{Lang, Repeated, Optional}
 use Rattle.plural_syntax.specs.Grammar.Repeated.{no_more, one_more}
 use Rattle.plural_syntax.specs.Grammar.Optional.{absent, present}
-use Rattle.plural_syntax.specs.Reading.{Why, Answer, Parser, pure, and_then, ◌>>=◌, refuse, take, when, maybe, many}
+use Rattle.plural_syntax.specs.Reading.{Answer, Parser, pure, and_then, ◌>>=◌, take, named_by, function_name, when, maybe, many}
 use Rattle.plural_syntax.specs.Reading.Why.{unexpected, deep}
 use Rattle.plural_syntax.proofs.Words.{is_word}
-use Rattle.plural_syntax.proofs.Readers.{Begins, StopsBad, Reads, Seq, Takes, Nothing, IsNonempty, many-step}
+use Rattle.plural_syntax.proofs.Readers.{Begins, StopsBad, Reads, Seq, Takes, Names, Nothing, IsNonempty, many-step}
 use Rattle.plural_syntax.proofs.Readers.Seq.{seq}
 use Rattle.plural_syntax.proofs.Readers.Takes.{takes}
+use Rattle.plural_syntax.proofs.Readers.Names.{names}
 use Rattle.plural_syntax.proofs.Readers.Nothing.{nothing}
 
 abbrev pub IsDeep : {A : Type 0} → Answer A → Type 0
@@ -71,6 +73,12 @@ take_again v _ _ rest (takes l e) = inl (ap (λ c. cond c (Ok (l.token, rest)) (
 
 pub finds_take : (v : Word) (g : Word → Bool) → Finds (take v) (Takes v) g
 finds_take v g = record { again = λ a xs rest r e. take_again v a xs rest r }
+
+name_again : (n : FunctionName) (xs rest : List Lexeme) → Names n xs → Fine (function_name (xs ++ rest)) n rest
+name_again _ _ rest (names l f e) = inl (ap (λ v. named_by (function_of v) l rest) e)
+
+pub finds_name : (g : Word → Bool) → Finds function_name Names g
+finds_name g = record { again = λ n xs rest r e. name_again n xs rest r }
 
 pure_again : {A : Type 0} (a b : A) (xs rest : List Lexeme) → Nothing a b xs → Fine (pure a (xs ++ rest)) b rest
 pure_again a _ _ rest nothing = inl refl

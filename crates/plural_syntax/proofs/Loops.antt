@@ -1,10 +1,9 @@
 -- What the loops of the code keep, and how levels are counted.
-use Rattle.std.proofs.Common.{◌≡◌, ℕ, zero, suc, ◌-◌, ◌<◌, Bool, true, false, [], ◌∷◌, ◌++◌, List, Result, Ok, Err, Option, Some, None, refl, ap, arith}
+use Rattle.std.proofs.Common.{◌≡◌, ℕ, zero, suc, ◌-◌, ◌<◌, Bool, true, false, [], ◌∷◌, ◌++◌, List, Ok, Err, Some, None, refl, ap, arith}
 use Rattle.plural_syntax.specs.declared.word.Word.{Word}
 use Rattle.plural_syntax.specs.declared.reading.Stop.{Stop}
 use Rattle.plural_syntax.specs.declared.reading.Stop.TheVariants as stop
-use Rattle.plural_syntax.specs.declared.tree.Expr.{Expr}
-use Rattle.plural_syntax.specs.Words.{Lexeme, lexemes, head_is}
+use Rattle.plural_syntax.specs.Words.{Lexeme, head_is}
 use Rattle.plural_syntax.specs.Levels.{Step}
 use Rattle.plural_syntax.specs.Grammar.{Lang, IsTokenAfter, IsScaled, IsAdded, IsExpr, IsExprAfter}
 use Rattle.plural_syntax.specs.Reading.{Why, Answer, Parser, many, token_after, scaled_with, added_with, expr_after_with, expr_with, expr, inside, Fails}

@@ -1,11 +1,9 @@
 -- The rules of the parts of statements.
-use Rattle.std.proofs.Common.{◌≡◌, ℕ, suc, Bool, true, false, [], ◌∷◌, ◌++◌, List, Option, Some, None, ◌⊎◌, inl, inr, refl, sym, ap, ◌∙◌, append_assoc, append-nil}
-use Rattle.plural_lexer.specs.declared.token.Token.{Token}
+use Rattle.std.proofs.Common.{◌≡◌, ℕ, suc, Bool, true, false, [], ◌∷◌, ◌++◌, List, Option, inl, inr, refl, ap, ◌∙◌, append_assoc}
 use Rattle.plural_syntax.specs.declared.word.Word.{Word}
 use Rattle.plural_syntax.specs.declared.word.Word.TheVariants as w
 use Rattle.plural_syntax.specs.Words.{Lexeme, word, is, head_is}
 use Rattle.plural_syntax.specs.Grammar.{Lang, Repeated, Optional, IsTokenGroup, IsExpr, IsList, IsVars, IsItem, IsItemAfter, IsItemList, IsOrder, IsValue, IsValues, IsSide}
-use Rattle.plural_syntax.specs.Grammar.Optional.{absent, present}
 use Rattle.plural_syntax.specs.Grammar.IsTokenGroup.{token_group as is_token_group}
 use Rattle.plural_syntax.specs.Grammar.IsVars.{one_name, many_names}
 use Rattle.plural_syntax.specs.Grammar.IsItem.{item as is_item}
@@ -19,8 +17,7 @@ use Rattle.plural_syntax.specs.declared.tree.Vars.{Vars}
 use Rattle.plural_syntax.specs.declared.tree.Vars.TheVariants as vars
 use Rattle.plural_syntax.specs.declared.tree.Order.{Order}
 use Rattle.plural_syntax.specs.declared.tree.Order.TheVariants as order
-use Rattle.plural_syntax.specs.declared.tree.Expr.{Expr, roll-Expr}
-use Rattle.plural_syntax.specs.declared.tree.ExprList.{ExprList, roll-ExprList}
+use Rattle.plural_syntax.specs.declared.tree.Expr.{Expr}
 use Rattle.plural_syntax.specs.declared.tree.TokenGroup.{TokenGroup}
 use Rattle.plural_syntax.specs.declared.tree.Item.{Item}
 use Rattle.plural_syntax.specs.declared.tree.ItemAfter.{ItemAfter}
@@ -28,14 +25,14 @@ use Rattle.plural_syntax.specs.declared.tree.ItemList.{ItemList}
 use Rattle.plural_syntax.specs.declared.tree.Value.{Value}
 use Rattle.plural_syntax.specs.declared.tree.Values.{Values}
 use Rattle.plural_syntax.specs.declared.tree.Side.{Side}
-use Rattle.plural_syntax.specs.Reading.{Parser, pure, ◌>>=◌, take, when, maybe, many, token_group, list_with, expr_with, read_vars, item, item_after, item_list, read_order, side, value_with, values_with}
+use Rattle.plural_syntax.specs.Reading.{Parser, maybe, expr_with, read_vars, item, item_after, item_list, read_order, side, value_with, values_with}
 use Rattle.plural_syntax.proofs.Words.{is_word}
 use Rattle.plural_syntax.proofs.Readers.{Seq, Takes, Nothing}
 use Rattle.plural_syntax.proofs.Readers.Seq.{seq}
 use Rattle.plural_syntax.proofs.Readers.Takes.{takes}
 use Rattle.plural_syntax.proofs.Readers.Nothing.{nothing}
 use Rattle.plural_syntax.proofs.Finders.{Or}
-use Rattle.plural_syntax.proofs.Rules.{Rule, Starts, Avoids, in_set, covers_is, covers_set, apart_is, rule_from, rule_more, rule_bind, done, tok, yields, last, head_takes, into, rule_when, rule_many, rule_maybe, starts_takes, avoids_nothing, avoids_many}
+use Rattle.plural_syntax.proofs.Rules.{Rule, Starts, in_set, covers_is, covers_set, apart_is, rule_from, rule_bind, done, tok, yields, last, head_takes, into, rule_when, rule_many, rule_maybe, starts_takes, avoids_nothing, avoids_many}
 use Rattle.plural_syntax.proofs.Strict.{strict, Inner}
 use Rattle.plural_syntax.proofs.ExprRules.{tk, fin, goes_expr, goes_list, rule_token_group, token_group_starts, rule_expr_with, rule_list}
 

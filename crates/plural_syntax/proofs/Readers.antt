@@ -1,16 +1,19 @@
 -- What each way of joining parsers keeps, whatever the state that tokens step: where a parser stops, and that it looks at
 -- one token after that.
-use Rattle.std.proofs.Common.{◌≡◌, ℕ, zero, suc, ◌+◌, ◌≤◌, ◌<◌, Bool, true, false, cond, [], ◌∷◌, ◌++◌, List, length, Result, Ok, Err, Option, Some, None, refl, sym, ap, subst, ◌∙◌, arith, append_assoc, length-append, append-nil}
+use Rattle.std.proofs.Common.{◌≡◌, ℕ, zero, suc, ◌≤◌, ◌<◌, Bool, true, false, cond, [], ◌∷◌, ◌++◌, List, length, Ok, Err, Option, Some, None, is_some, refl, sym, ap, subst, ◌∙◌, arith, append_assoc, length-append, append-nil}
 use Rattle.plural_lexer.specs.declared.token.Token.{Token}
 use Rattle.plural_syntax.specs.declared.word.Word.{Word}
 use Rattle.plural_syntax.specs.declared.word.Word.TheVariants as w
-use Rattle.plural_syntax.specs.Words.{Lexeme, word, is, head_is, next}
+use Rattle.plural_syntax.specs.declared.tree.Function.{Function}
+use Rattle.plural_syntax.specs.declared.tree.Function.TheVariants as fn
+use Rattle.plural_syntax.specs.declared.tree.FunctionName.{FunctionName}
+use Rattle.plural_syntax.specs.Words.{Lexeme, word, is, head_is, next, function_of, names_function}
 use Rattle.plural_syntax.specs.Levels.{Step, on_some, walk}
 use Rattle.plural_syntax.specs.Grammar.{Lang, Repeated}
 use Rattle.plural_syntax.specs.Grammar.Repeated.{no_more, one_more}
-use Rattle.plural_syntax.specs.Reading.{Why, Answer, Parser, pure, and_then, ◌>>=◌, refuse, take, when, many_by, many}
+use Rattle.plural_syntax.specs.Reading.{Why, Answer, Parser, pure, and_then, ◌>>=◌, refuse, take, named_by, function_name, when, many_by, many}
 use Rattle.plural_syntax.specs.Reading.Why.{unexpected, deep}
-use Rattle.plural_syntax.proofs.Words.{sample, word-sample, same_word}
+use Rattle.plural_syntax.proofs.Words.{sample, word-sample, same_word, function_word}
 
 abbrev pub head : List Lexeme → Option Lexeme
 head [] = None
@@ -189,6 +192,45 @@ take_stops_at step d u v s (l ∷ ls) = take_stops step d u v s l ls (is v (word
 
 pub reads_take : {T : Type 0} (step : Step T) (d u : T) (v : Word) → step d v ≡ Some u → Reads step d u (take v) (Takes v)
 reads_take step d u v s = record { some = some_token v; stops = take_stops_at step d u v s }
+
+-- ---- the name of a function
+
+pub data Names : FunctionName → List Lexeme → Type 0 where
+  names : (l : Lexeme) (f : Function) → word l ≡ w.Function f → Names (record { token = l.token; function = f }) (l ∷ [])
+
+some_name : Begins Names []
+some_name = (record { token = (sample (w.Function fn.Std)).token; function = fn.Std }, sample (w.Function fn.Std) ∷ [], names (sample (w.Function fn.Std)) fn.Std (word-sample (w.Function fn.Std)))
+
+names_fails : (ls : List Lexeme) → head_is names_function ls ≡ false → function_name ls ≡ Err (unexpected, ls)
+names_fails [] e = refl
+names_fails (l ∷ ls) e = unnamed (function_of (word l)) e where
+  unnamed : (o : Option Function) → is_some o ≡ false → named_by o l ls ≡ Err (unexpected, l ∷ ls)
+  unnamed None e = refl
+  unnamed (Some f) e = cc
+
+names_stops : {T : Type 0} (step : Step T) (d u : T) → ((f : Function) → step d (w.Function f) ≡ Some u) → (l : Lexeme) (ls : List Lexeme) (o : Option Function) → function_of (word l) ≡ o → Stops step d u function_name Names (l ∷ ls) (named_by o l ls)
+names_stops step d u s l ls (Some f) e = record {
+  front = l ∷ [];
+  split = refl;
+  spells = names l f (function_word (word l) f e);
+  keeps = ap (λ o. on_some o (λ x. walk step x [])) (ap (step d) (function_word (word l) f e) ∙ s f);
+  local = λ other h. ap (λ o. named_by o l other) e;
+}
+names_stops step d u s l ls None e = record {
+  front = [];
+  split = refl;
+  left = d;
+  keeps = refl;
+  begins = some_name;
+  local = λ other h. names_fails other (sym (head_is-same names_function (l ∷ ls) other h) ∙ ap is_some e);
+}
+
+names_stops_at : {T : Type 0} (step : Step T) (d u : T) → ((f : Function) → step d (w.Function f) ≡ Some u) → (ls : List Lexeme) → Stops step d u function_name Names ls (function_name ls)
+names_stops_at step d u s [] = record { front = []; split = refl; left = d; keeps = refl; begins = some_name; local = λ other h. names_fails other (sym (head_is-same names_function [] other h)) }
+names_stops_at step d u s (l ∷ ls) = names_stops step d u s l ls (function_of (word l)) refl
+
+pub reads_name : {T : Type 0} (step : Step T) (d u : T) → ((f : Function) → step d (w.Function f) ≡ Some u) → Reads step d u function_name Names
+reads_name step d u s = record { some = some_name; stops = names_stops_at step d u s }
 
 -- ---- nothing
 

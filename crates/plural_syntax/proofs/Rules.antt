@@ -1,22 +1,22 @@
 -- Both theories at once, with sets of words for what goes on with a rule.
-use Rattle.std.proofs.Common.{◌≡◌, ℕ, zero, suc, ◌||◌, ◌&&◌, ◌⊎◌, inl, inr, Bool, true, false, cond, [], ◌∷◌, ◌++◌, List, length, Result, Ok, Err, Option, Some, None, refl, sym, ap, subst, ◌∙◌, ◌<◌, arith, append_assoc, append-nil}
+use Rattle.std.proofs.Common.{◌≡◌, ◌||◌, ◌&&◌, ◌⊎◌, inl, inr, Bool, true, false, [], ◌∷◌, ◌++◌, List, Option, Some, None, refl, sym, ap, ◌∙◌, arith, append_assoc, append-nil}
 use Rattle.std.proofs.lemmas.Bool.{true≢false}
 use Rattle.plural_lexer.specs.declared.token.Token.{Token}
 use Rattle.plural_syntax.specs.declared.word.Word.{Word}
 use Rattle.plural_syntax.specs.declared.word.Word.TheVariants as w
+use Rattle.plural_syntax.specs.declared.tree.Function.{Function}
 use Rattle.plural_syntax.specs.Words.{Lexeme, word, is, is_either, head_is, next}
-use Rattle.plural_syntax.specs.Levels.{Step, on_some, walk, down, levels}
+use Rattle.plural_syntax.specs.Levels.{Step}
 use Rattle.plural_syntax.specs.Grammar.{Lang, Repeated, Optional}
 use Rattle.plural_syntax.specs.Grammar.Repeated.{no_more, one_more}
 use Rattle.plural_syntax.specs.Grammar.Optional.{absent, present}
-use Rattle.plural_syntax.specs.Reading.{Why, Answer, Parser, pure, and_then, ◌>>=◌, refuse, take, take_either, when, maybe, many, level}
-use Rattle.plural_syntax.specs.Reading.Why.{unexpected, deep}
-use Rattle.plural_syntax.proofs.Words.{sample, same_word, same_either, is_word, is_one_of_two, one_or_other}
-use Rattle.plural_syntax.proofs.Readers.{head, head_is-same, Begins, Reads, Stops, Seq, Takes, Nothing, IsNonempty, reads_weak, reads_bind, reads_take, reads_pure, reads_refuse, reads_when, reads_by, reads_many}
+use Rattle.plural_syntax.specs.Reading.{Parser, pure, ◌>>=◌, take, take_either, function_name, when, maybe, many}
+use Rattle.plural_syntax.proofs.Words.{same_word, same_either, is_one_of_two, one_or_other}
+use Rattle.plural_syntax.proofs.Readers.{Reads, Seq, Takes, Names, Nothing, IsNonempty, reads_weak, reads_bind, reads_take, reads_name, reads_pure, reads_when, reads_by, reads_many}
 use Rattle.plural_syntax.proofs.Readers.Seq.{seq}
 use Rattle.plural_syntax.proofs.Readers.Takes.{takes}
 use Rattle.plural_syntax.proofs.Readers.Nothing.{nothing}
-use Rattle.plural_syntax.proofs.Finders.{Fine, IsDeep, Finds, At, is_itself, finds_bind, finds_from, finds_take, finds_pure, finds_when, Or, finds_many, finds_maybe, finds_by, never_head}
+use Rattle.plural_syntax.proofs.Finders.{Finds, At, is_itself, finds_bind, finds_from, finds_take, finds_name, finds_pure, finds_when, Or, finds_many, finds_maybe, finds_by, never_head}
 
 -- ---- sets of words
 
@@ -104,6 +104,9 @@ done R a _ xs _ nothing r = rw (append-nil xs) r
 
 pub rule_take : {T : Type 0} {step : Step T} {d u : T} (v : Word) → step d v ≡ Some u → Rule step d u (take v) (Takes v) []
 rule_take {step = step} {d = d} {u = u} v e = record { reads = reads_take step d u v e; finds = finds_take v (in_set []) }
+
+pub rule_name : {T : Type 0} {step : Step T} {d u : T} → ((f : Function) → step d (w.Function f) ≡ Some u) → Rule step d u function_name Names []
+rule_name {step = step} {d = d} {u = u} e = record { reads = reads_name step d u e; finds = finds_name (in_set []) }
 
 pub tok : {T B : Type 0} {step : Step T} {d u t : T} {q : Token → Parser B} {S : Token → Lang B} {h : List Word} (v : Word) → step d v ≡ Some u → ((a : Token) → Rule step u t (q a) (S a) h) → Rule step d t (take v >>= q) (Seq (Takes v) S) h
 tok v e s = rule_then (rule_take v e) s

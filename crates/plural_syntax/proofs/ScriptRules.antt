@@ -1,5 +1,5 @@
 -- Scripts: what `parse` answers, and that tokens spell one script at most.
-use Rattle.std.proofs.Common.{◌≡◌, ℕ, zero, suc, ◌+◌, ◌≤◌, ◌<◌, ◌&&◌, Bool, true, false, not, cond, if◌then◌else◌, [], ◌∷◌, ◌++◌, List, length, map, get_or, Result, Ok, Err, Option, Some, None, ◌⊎◌, inl, inr, refl, sym, ap, subst, ◌∙◌, arith, append_assoc, append-nil, length-append}
+use Rattle.std.proofs.Common.{◌≡◌, ℕ, zero, suc, ◌+◌, ◌≤◌, ◌<◌, ◌&&◌, Bool, true, false, not, cond, if◌then◌else◌, [], ◌∷◌, ◌++◌, List, length, map, get_or, Ok, Err, Option, Some, None, inl, inr, refl, sym, ap, subst, ◌∙◌, arith, append_assoc, append-nil, length-append}
 use Rattle.std.proofs.lemmas.Bool.{true≢false}
 use lib.Pointwise.{pointwise}
 use lib.Dec.{eqb}
@@ -13,18 +13,18 @@ use Rattle.plural_syntax.specs.declared.word.Word.TheVariants as w
 use Rattle.plural_syntax.specs.declared.word.TheConstants.{SPELLINGS}
 use Rattle.plural_syntax.specs.declared.tree.Statement.{Statement}
 use Rattle.plural_syntax.specs.declared.tree.Script.{Script}
-use Rattle.plural_syntax.specs.Words.{Lexeme, word, word_of, lexeme, lexemes, is, head_is, look_up, spelled}
-use Rattle.plural_syntax.specs.Levels.{Step, on_some, walk, down, levels}
+use Rattle.plural_syntax.specs.Words.{Lexeme, word, word_of, lexeme, lexemes, is, look_up, spelled}
+use Rattle.plural_syntax.specs.Levels.{on_some, walk, down, levels}
 use Rattle.plural_syntax.specs.Grammar.{Lang, Repeated, IsStatement, IsScript}
 use Rattle.plural_syntax.specs.Grammar.IsScript.{script as is_script}
-use Rattle.plural_syntax.specs.Outcome.{BeginsScript, IsParsed, IsUnexpected, IsTooDeep}
-use Rattle.plural_syntax.specs.Reading.{Why, Answer, Parser, pure, and_then, ◌>>=◌, take, inside, statement_with, not_end, statements, script}
+use Rattle.plural_syntax.specs.Outcome.{IsParsed, IsUnexpected, IsTooDeep}
+use Rattle.plural_syntax.specs.Reading.{Answer, Parser, pure, and_then, ◌>>=◌, take, inside, statement_with, not_end, statements, script}
 use Rattle.plural_syntax.specs.Reading.Why.{unexpected, deep}
-use Rattle.plural_syntax.proofs.Readers.{Begins, Stops, StopsOk, StopsBad, StopsDeep, Reads, Seq, Takes, Nothing, reads_weak, reads_bind, reads_take, reads_pure, reads_many}
+use Rattle.plural_syntax.proofs.Readers.{Begins, Stops, StopsOk, StopsDeep, Reads, Seq, Takes, Nothing, reads_weak, reads_bind, reads_take, reads_pure, reads_many}
 use Rattle.plural_syntax.proofs.Readers.Seq.{seq}
 use Rattle.plural_syntax.proofs.Readers.Takes.{takes}
 use Rattle.plural_syntax.proofs.Readers.Nothing.{nothing}
-use Rattle.plural_syntax.proofs.Finders.{Fine, IsDeep, Finds, finds_bind, finds_from, finds_take, finds_pure, finds_many, never_head, not_begun}
+use Rattle.plural_syntax.proofs.Finders.{IsDeep, Finds, finds_bind, finds_from, finds_take, finds_pure, finds_many, never_head, not_begun}
 use Rattle.plural_syntax.proofs.Rules.{Rule, in_set, head_takes, nonempty_starts}
 use Rattle.plural_syntax.proofs.Strict.{strict}
 use Rattle.plural_syntax.proofs.ExprRules.{tk, inside_ok}

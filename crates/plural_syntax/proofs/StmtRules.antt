@@ -1,13 +1,13 @@
 -- The rules of statements.
-use Rattle.std.proofs.Common.{◌≡◌, ℕ, suc, Bool, true, false, not, [], ◌∷◌, ◌++◌, List, Option, Some, None, ◌⊎◌, inl, inr, refl, sym, ap, subst, ◌∙◌, append_assoc, append-nil}
+use Rattle.std.proofs.Common.{◌≡◌, ℕ, suc, Bool, true, false, [], ◌∷◌, ◌++◌, List, Option, Some, None, inl, inr, refl, sym, ap, subst, ◌∙◌, append_assoc}
 use Rattle.std.specs.Option.{option_map}
 use Rattle.plural_lexer.specs.declared.token.Token.{Token}
 use Rattle.plural_syntax.specs.declared.word.Word.{Word}
 use Rattle.plural_syntax.specs.declared.word.Word.TheVariants as w
 use Rattle.plural_syntax.specs.declared.statements.Start.{Start}
 use Rattle.plural_syntax.specs.declared.statements.Start.TheVariants as start
-use Rattle.plural_syntax.specs.Words.{Lexeme, word, is, is_either, head_is, next}
-use Rattle.plural_syntax.specs.Grammar.{Lang, Repeated, Optional, IsTokenGroup, IsIndex, IsPower, IsScaled, IsAdded, IsBase, IsFactor, IsTerm, AreScaled, AreAdded, IsExpr, IsList, IsExprPair, IsVars, IsOrder, IsValue, IsValues, IsSide, IsStatement}
+use Rattle.plural_syntax.specs.Words.{Lexeme, word, is, is_either, head_is}
+use Rattle.plural_syntax.specs.Grammar.{Lang, Optional, IsTokenGroup, IsIndex, IsPower, IsBase, AreScaled, AreAdded, IsExpr, IsList, IsExprPair, IsVars, IsOrder, IsValue, IsValues, IsSide, IsStatement}
 use Rattle.plural_syntax.specs.Grammar.IsBase.{int, name, group, call}
 use Rattle.plural_syntax.specs.Grammar.IsFactor.{factor}
 use Rattle.plural_syntax.specs.Grammar.IsTerm.{term}
@@ -16,42 +16,32 @@ use Rattle.plural_syntax.specs.Grammar.IsIndex.{index as is_index}
 use Rattle.plural_syntax.specs.Grammar.Optional.{absent, present}
 use Rattle.plural_syntax.specs.Grammar.IsTokenAfter.{token_after as is_token_after}
 use Rattle.plural_syntax.specs.Grammar.{IsStatement as st}
+use Rattle.plural_syntax.specs.declared.tree.Function.{Function}
+use Rattle.plural_syntax.specs.declared.tree.Function.TheVariants as fn
+use Rattle.plural_syntax.specs.declared.tree.FunctionName.{FunctionName}
 use Rattle.plural_syntax.specs.declared.tree.Base.{Base}
 use Rattle.plural_syntax.specs.declared.tree.Base.TheVariants as base
 use Rattle.plural_syntax.specs.declared.tree.Scaled.{Scaled}
-use Rattle.plural_syntax.specs.declared.tree.Scaled.TheVariants as scaled
-use Rattle.plural_syntax.specs.declared.tree.Vars.{Vars}
-use Rattle.plural_syntax.specs.declared.tree.Vars.TheVariants as vars
-use Rattle.plural_syntax.specs.declared.tree.Order.{Order}
-use Rattle.plural_syntax.specs.declared.tree.Order.TheVariants as order
 use Rattle.plural_syntax.specs.declared.tree.Statement.{Statement}
 use Rattle.plural_syntax.specs.declared.tree.Statement.TheVariants as statement
-use Rattle.plural_syntax.specs.declared.tree.Factor.{Factor, roll-Factor}
-use Rattle.plural_syntax.specs.declared.tree.Term.{Term, roll-Term}
-use Rattle.plural_syntax.specs.declared.tree.Added.{Added, roll-Added}
-use Rattle.plural_syntax.specs.declared.tree.Expr.{Expr, roll-Expr}
-use Rattle.plural_syntax.specs.declared.tree.ExprList.{ExprList, roll-ExprList}
+use Rattle.plural_syntax.specs.declared.tree.Added.{Added}
+use Rattle.plural_syntax.specs.declared.tree.Expr.{Expr}
+use Rattle.plural_syntax.specs.declared.tree.ExprList.{ExprList}
 use Rattle.plural_syntax.specs.declared.tree.Power.{Power}
 use Rattle.plural_syntax.specs.declared.tree.Index.{Index}
 use Rattle.plural_syntax.specs.declared.tree.TokenAfter.{TokenAfter}
-use Rattle.plural_syntax.specs.declared.tree.TokenList.{TokenList}
-use Rattle.plural_syntax.specs.declared.tree.TokenGroup.{TokenGroup}
-use Rattle.plural_syntax.specs.declared.tree.Value.{Value}
-use Rattle.plural_syntax.specs.declared.tree.Values.{Values}
-use Rattle.plural_syntax.specs.declared.tree.Side.{Side}
-use Rattle.plural_syntax.specs.declared.tree.ExprPair.{ExprPair}
-use Rattle.plural_syntax.specs.Reading.{Parser, pure, ◌>>=◌, refuse, take, when, maybe, many, level, token_group, index, pair_with, list_with, called_with, resumed_with, expr_with, inside, read_vars, read_order, side, value_with, values_with, start_of, empty_statement, ring_statement, set_ring_statement, option_statement, short_statement, quit_statement, print_with, printed_with, expr_statement_with, defined_with, def_with, poly_with, after_ideal, ideal_with, module_with, matrix_with, assign_with, assign_entry_with, assigned_entry, assigned_with, after_name, named_with, statement_from, statement_with, not_end}
-use Rattle.plural_syntax.proofs.Words.{same_word, same_either, is_word}
-use Rattle.plural_syntax.proofs.Readers.{Begins, Reads, Seq, Takes, Nothing, reads_when, reads_refuse, reads_weak}
+use Rattle.plural_syntax.specs.Reading.{Parser, refuse, when, pair_with, expr_with, start_of, empty_statement, ring_statement, set_ring_statement, option_statement, short_statement, quit_statement, print_with, printed_with, expr_statement_with, defined_with, def_with, poly_with, after_ideal, ideal_with, module_with, matrix_with, assign_with, assign_entry_with, assigned_entry, after_name, named_with, statement_from, statement_with, not_end}
+use Rattle.plural_syntax.proofs.Words.{same_word, same_either, each_function}
+use Rattle.plural_syntax.proofs.Readers.{Seq, Takes, Nothing, reads_when, reads_refuse, reads_weak}
 use Rattle.plural_syntax.proofs.Readers.Seq.{seq}
 use Rattle.plural_syntax.proofs.Readers.Takes.{takes}
 use Rattle.plural_syntax.proofs.Readers.Nothing.{nothing}
-use Rattle.plural_syntax.proofs.Finders.{Or, At, Finds, finds_when}
-use Rattle.plural_syntax.proofs.Rules.{Rule, Starts, Avoids, Covers, in_set, covers_is, covers_set, rule_from, rule_bind, rule_then, done, tok, yields, last, head_takes, into, rule_when, rule_by, starts_takes, avoids_nothing, avoids_many, avoids_maybe}
-use Rattle.plural_syntax.proofs.Strict.{strict, Levelled, Inner, rule_level, levelled_head}
+use Rattle.plural_syntax.proofs.Finders.{Or, At, finds_when}
+use Rattle.plural_syntax.proofs.Rules.{Rule, Starts, Avoids, Covers, in_set, covers_is, covers_set, rule_bind, rule_then, done, tok, yields, head_takes, into, rule_when, rule_by, starts_takes, avoids_nothing, avoids_many, avoids_maybe}
+use Rattle.plural_syntax.proofs.Strict.{strict, Levelled, Inner, rule_level}
 use Rattle.plural_syntax.proofs.Strict.Levelled.{levelled}
-use Rattle.plural_syntax.proofs.ExprRules.{tk, fin, goes_base, goes_expr, goes_list, Called, Resumed, resumed_expr, Firsts, expr_head, rule_token_group, rule_maybe_index, rule_list, inner_pair, rule_called, rule_expr_with, rule_resumed, power_starts, scaled_starts, added_starts, to_all_scaled, from_all_scaled, to_all_added, from_all_added}
-use Rattle.plural_syntax.proofs.PartRules.{rule_vars, rule_order, rule_side, rule_maybe_value, rule_maybe_values, goes_value, goes_values}
+use Rattle.plural_syntax.proofs.ExprRules.{tk, fin, named, goes_base, goes_expr, Called, Resumed, resumed_expr, Firsts, expr_head, rule_token_group, rule_maybe_index, rule_list, inner_pair, rule_called, rule_expr_with, rule_resumed, power_starts, scaled_starts, added_starts, to_all_scaled, from_all_scaled, to_all_added, from_all_added}
+use Rattle.plural_syntax.proofs.PartRules.{rule_vars, rule_order, rule_side, rule_maybe_value, rule_maybe_values}
 
 -- ---- the languages of the alternatives, by how they begin
 
@@ -69,6 +59,9 @@ AsAlgebra a n e = Seq (Takes w.NcAlgebra) (λ k. Seq (Levelled IsExprPair) (λ g
 
 abbrev AsDef : Token → Token → Token → Lang Statement
 AsDef a n e = Seq IsExpr (λ x. Semi (λ s. statement.Def a n e x s))
+
+abbrev ideal_name : Token → FunctionName
+ideal_name a = record { token = a; function = fn.Ideal }
 
 abbrev AsIdeal : Token → Lang Statement
 AsIdeal a = Seq (Takes w.Name) (λ n. Seq (Optional IsValues) (λ v. Semi (λ s. statement.Ideal a n v s)))
@@ -96,7 +89,7 @@ Of start.Ring = Seq (Takes w.Ring) (λ a. Seq (Takes w.Name) (λ n. Seq (Takes w
 Of start.SetRing = Seq (Takes w.SetRing) (λ a. Seq (Takes w.Name) (λ n. Semi (λ s. statement.SetRing a n s)))
 Of start.Def = Seq (Takes w.Def) (λ a. Seq (Takes w.Name) (λ n. Seq (Takes w.Equals) (λ e. Or (AsAlgebra a n e) (AsDef a n e))))
 Of start.Poly = Seq (Takes w.Poly) (λ a. Seq (Takes w.Name) (λ n. Seq (Optional IsValue) (λ v. Semi (λ s. statement.Poly a n v s))))
-Of start.Ideal = Seq (Takes w.Ideal) (λ a. Or (AsIdeal a) (Seq (Called a) Printed))
+Of start.Ideal = Seq (Takes (w.Function fn.Ideal)) (λ a. Or (AsIdeal a) (Seq (Called (ideal_name a)) Printed))
 Of start.Module = Seq (Takes w.Module) (λ a. Seq (Takes w.Name) (λ n. Seq (Optional IsValue) (λ v. Semi (λ s. statement.Module a n v s))))
 Of start.Matrix = Seq (Takes w.Matrix) (λ a. Seq (Takes w.Name) (λ n. Seq IsSide (λ r. Seq IsSide (λ c. Seq (Optional IsValues) (λ v. Semi (λ s. statement.Matrix a n r c v s))))))
 Of start.Option = Seq (Takes w.Option) (λ a. Seq (IsTokenGroup w.Name) (λ g. Semi (λ s. statement.Option a g s)))
@@ -118,10 +111,10 @@ resume b bs h _ _ (seq p _ ps _ hp (seq ts _ tms _ ht (seq m _ ms zs hm z))) =
 printing : (b : Base) (bs : List Lexeme) → IsBase b bs → (x : Statement) (xs : List Lexeme) → Printed b x xs → IsStatement x (bs ++ xs)
 printing b bs h _ _ (seq x _ xs _ r (seq _ _ _ _ (takes s z) nothing)) = subst (IsStatement (statement.Print x s.token)) (append_assoc bs xs (s ∷ [])) (st.print s x (bs ++ xs) (resume b bs h x xs r) z)
 
-called_base : (f : Lexeme) → word f ≡ w.Ideal → (b : Base) (gs : List Lexeme) → Called f.token b gs → IsBase b (f ∷ gs)
-called_base f h _ _ (seq _ _ _ zs (levelled a b l ls i k m) z) = done (λ x q. IsBase x (f ∷ q)) _ _ (a ∷ (ls ++ b ∷ [])) zs z (call f a b l ls (inl h) i k m)
+called_base : (f : Lexeme) → word f ≡ w.Function fn.Ideal → (b : Base) (gs : List Lexeme) → Called (ideal_name f.token) b gs → IsBase b (f ∷ gs)
+called_base f h _ _ (seq _ _ _ zs (levelled a b l ls i k m) z) = done (λ x q. IsBase x (f ∷ q)) _ _ (a ∷ (ls ++ b ∷ [])) zs z (call f a b fn.Ideal l ls h i k m)
 
-to_ideal : (f : Lexeme) → word f ≡ w.Ideal → (x : Statement) (xs : List Lexeme) → Or (AsIdeal f.token) (Seq (Called f.token) Printed) x xs → IsStatement x (f ∷ xs)
+to_ideal : (f : Lexeme) → word f ≡ w.Function fn.Ideal → (x : Statement) (xs : List Lexeme) → Or (AsIdeal f.token) (Seq (Called (ideal_name f.token)) Printed) x xs → IsStatement x (f ∷ xs)
 to_ideal a h _ _ (inl (seq _ _ _ _ (takes n k) (seq v _ vs _ m (seq _ _ _ _ (takes s z) nothing)))) = st.ideal a n s v vs h k m z
 to_ideal f h x _ (inr (seq b _ gs xs g r)) = printing b (f ∷ gs) (called_base f h b gs g) x xs r
 
@@ -167,21 +160,55 @@ printed_of b p ts m ps tms ms hp ht hm s z = seq (resumed_expr b p ts m) _ (ps +
 regroup_end : (bs ps ts ms es : List Lexeme) → (((bs ++ ps) ++ ts) ++ ms) ++ es ≡ bs ++ ((ps ++ (ts ++ ms)) ++ es)
 regroup_end bs ps ts ms es = ap (λ l. l ++ es) (regroup bs ps ts ms) ∙ append_assoc bs (ps ++ (ts ++ ms)) es
 
+-- an expression that begins with a call
+abbrev call_expr : Lexeme → Function → Lexeme → Lexeme → ExprList → List Scaled → List Added → Option Power → Expr
+call_expr n f a b l ts m p = resumed_expr (base.Call (named n f) a.token l b.token) p ts m
+
+abbrev call_lexemes : Lexeme → Lexeme → Lexeme → List Lexeme → List Lexeme → List Lexeme → List Lexeme → List Lexeme
+call_lexemes n a b ls ps tms ms = (((n ∷ a ∷ (ls ++ b ∷ [])) ++ ps) ++ tms) ++ ms
+
+abbrev FromCall : Function → Type 0
+FromCall f = (s n a b : Lexeme) (l : ExprList) (ls : List Lexeme) (ts : List Scaled) (m : List Added) (p : Option Power) (tms ms ps : List Lexeme) → word n ≡ w.Function f → word a ≡ w.Open → IsList l ls → word b ≡ w.Close → Optional IsPower p ps → AreScaled ts tms → AreAdded m ms → word s ≡ w.Semicolon → At start_of Of (statement.Print (call_expr n f a b l ts m p) s.token) (call_lexemes n a b ls ps tms ms ++ s ∷ [])
+
+from_other_call : (f : Function) → start_of (Some (w.Function f)) ≡ start.Expr → FromCall f
+from_other_call f e s n a b l ls ts m p tms ms ps h i k q hp ht hm z = record {
+  start = start.Expr;
+  begins = λ rest. ap (λ v. start_of (Some v)) h ∙ e;
+  spells = seq _ _ (call_lexemes n a b ls ps tms ms) (s ∷ []) (unsigned _ m _ ms (term _ ts _ tms (factor _ p _ ps (call n a b f l ls h i k q) hp) ht) hm) (tk s z nothing);
+}
+
+from_ideal_call : FromCall fn.Ideal
+from_ideal_call s n a b l ls ts m p tms ms ps h i k q hp ht hm z =
+    let called : Base = base.Call (ideal_name n.token) a.token l b.token in
+    record {
+      start = start.Ideal;
+      begins = λ rest. ap (λ v. start_of (Some v)) h;
+      spells = tk n h (inr (subst (Seq (Called (ideal_name n.token)) Printed _) (sym (regroup_end (a ∷ (ls ++ b ∷ [])) ps tms ms (s ∷ []))) (seq called _ (a ∷ (ls ++ b ∷ [])) ((ps ++ (tms ++ ms)) ++ s ∷ []) (fin _ (levelled a b l ls i k q)) (printed_of called p ts m ps tms ms hp ht hm s z))));
+    }
+
+from_call : (f : Function) → FromCall f
+from_call = each_function FromCall
+    (from_other_call fn.Std refl)
+    (from_other_call fn.TwoStd refl)
+    (from_other_call fn.Nf refl)
+    (from_other_call fn.Reduce refl)
+    (from_other_call fn.Eliminate refl)
+    (from_other_call fn.Syz refl)
+    (from_other_call fn.Cofactors refl)
+    (from_other_call fn.TwoChain refl)
+    (from_other_call fn.Summary refl)
+    from_ideal_call
+
 from_print : (s : Lexeme) (x : Expr) (xs : List Lexeme) → IsExpr x xs → word s ≡ w.Semicolon → At start_of Of (statement.Print x s.token) (xs ++ s ∷ [])
 from_print s _ _ (signed a t m ts ms (inl h) k q) z = record { start = start.Expr; begins = λ rest. ap (λ v. start_of (Some v)) h; spells = seq _ _ (a ∷ (ts ++ ms)) (s ∷ []) (signed a t m ts ms (inl h) k q) (tk s z nothing) }
 from_print s _ _ (signed a t m ts ms (inr h) k q) z = record { start = start.Expr; begins = λ rest. ap (λ v. start_of (Some v)) h; spells = seq _ _ (a ∷ (ts ++ ms)) (s ∷ []) (signed a t m ts ms (inr h) k q) (tk s z nothing) }
 from_print s _ _ (unsigned _ m _ ms (term _ ts _ tms (factor _ p _ ps (int a h) hp) ht) hm) z = record { start = start.Expr; begins = λ rest. ap (λ v. start_of (Some v)) h; spells = seq _ _ (((a ∷ ps) ++ tms) ++ ms) (s ∷ []) (unsigned _ m _ ms (term _ ts _ tms (factor _ p _ ps (int a h) hp) ht) hm) (tk s z nothing) }
 from_print s _ _ (unsigned _ m _ ms (term _ ts _ tms (factor _ p _ ps (group a b e es h k q) hp) ht) hm) z = record { start = start.Expr; begins = λ rest. ap (λ v. start_of (Some v)) h; spells = seq _ _ ((((a ∷ (es ++ b ∷ [])) ++ ps) ++ tms) ++ ms) (s ∷ []) (unsigned _ m _ ms (term _ ts _ tms (factor _ p _ ps (group a b e es h k q) hp) ht) hm) (tk s z nothing) }
-from_print s _ _ (unsigned _ m _ ms (term _ ts _ tms (factor _ p _ ps (call f a b l ls (inr h) i k q) hp) ht) hm) z = record { start = start.Expr; begins = λ rest. ap (λ v. start_of (Some v)) h; spells = seq _ _ ((((f ∷ a ∷ (ls ++ b ∷ [])) ++ ps) ++ tms) ++ ms) (s ∷ []) (unsigned _ m _ ms (term _ ts _ tms (factor _ p _ ps (call f a b l ls (inr h) i k q) hp) ht) hm) (tk s z nothing) }
+from_print s _ _ (unsigned _ m _ ms (term _ ts _ tms (factor _ p _ ps (call n a b f l ls h i k q) hp) ht) hm) z = from_call f s n a b l ls ts m p tms ms ps h i k q hp ht hm z
 from_print s _ _ (unsigned _ m _ ms (term _ ts _ tms (factor _ p _ ps (name n i is h k) hp) ht) hm) z = record {
   start = start.Name;
   begins = λ rest. ap (λ v. start_of (Some v)) h;
   spells = tk n h (subst (Seq (Optional IsIndex) (λ j. After n.token j) _) (sym (regroup_end is ps tms ms (s ∷ []))) (seq i _ is ((ps ++ (tms ++ ms)) ++ s ∷ []) k (inr (printed_of (base.Name n.token i) p ts m ps tms ms hp ht hm s z))));
-}
-from_print s _ _ (unsigned _ m _ ms (term _ ts _ tms (factor _ p _ ps (call f a b l ls (inl h) i k q) hp) ht) hm) z = record {
-  start = start.Ideal;
-  begins = λ rest. ap (λ v. start_of (Some v)) h;
-  spells = tk f h (inr (subst (Seq (Called f.token) Printed _) (sym (regroup_end (a ∷ (ls ++ b ∷ [])) ps tms ms (s ∷ []))) (seq (base.Call f.token a.token l b.token) _ (a ∷ (ls ++ b ∷ [])) ((ps ++ (tms ++ ms)) ++ s ∷ []) (fin _ (levelled a b l ls i k q)) (printed_of (base.Call f.token a.token l b.token) p ts m ps tms ms hp ht hm s z))));
 }
 
 from_statement : (x : Statement) (ls : List Lexeme) → IsStatement x ls → At start_of Of x ls
@@ -214,7 +241,7 @@ from_statement _ _ (st.print s x xs hx z) = from_print s x xs hx z
 seq_expr_head : {B : Type 0} {S : Expr → Lang B} (t : Word → Bool) (c : Bool) → Firsts t c → t w.Plus ≡ c → t w.Minus ≡ c → (b : B) (xs rest : List Lexeme) → Seq IsExpr S b xs → head_is t (xs ++ rest) ≡ c
 seq_expr_head t c f p m _ _ rest (seq x b xs ys h s) = ap (head_is t) (append_assoc xs ys rest) ∙ expr_head t c f p m x xs (ys ++ rest) h
 
-called_head : {B : Type 0} {S : Base → Lang B} (t : Word → Bool) (f : Token) → t w.Open ≡ false → (b : B) (xs rest : List Lexeme) → Seq (Called f) S b xs → head_is t (xs ++ rest) ≡ false
+called_head : {B : Type 0} {S : Base → Lang B} (t : Word → Bool) (f : FunctionName) → t w.Open ≡ false → (b : B) (xs rest : List Lexeme) → Seq (Called f) S b xs → head_is t (xs ++ rest) ≡ false
 called_head t f e _ _ rest (seq _ b _ ys (seq _ _ _ zs (levelled l m a ls h r k) n) s) = ap t h ∙ e
 
 -- what goes on with a base, or ends its statement
@@ -278,7 +305,7 @@ module _ (d : ℕ) (inner : Option (Parser Expr)) (i : Inner (suc (suc d)) inner
   rule_defined : (a n e : Token) → Rule strict (suc (suc d)) (suc (suc d)) (defined_with inner a n e) (Or (AsAlgebra a n e) (AsDef a n e)) []
   unfolding defined_with
   rule_defined a n e =
-      rule_when (is w.NcAlgebra) (starts_takes w.NcAlgebra) (λ b xs rest h f. seq_expr_head (is w.NcAlgebra) false (record { at_int = refl; at_name = refl; at_ideal = refl; at_function = refl; at_open = refl }) refl refl b xs rest h)
+      rule_when (is w.NcAlgebra) (starts_takes w.NcAlgebra) (λ b xs rest h f. seq_expr_head (is w.NcAlgebra) false (record { at_int = refl; at_name = refl; at_function = each_function (λ f. is w.NcAlgebra (w.Function f) ≡ false) refl refl refl refl refl refl refl refl refl refl; at_open = refl }) refl refl b xs rest h)
       (tok w.NcAlgebra refl (λ k. into w.Semicolon refl (rule_level (suc (suc d)) (option_map pair_with inner) IsExprPair goes_expr refl (inner_pair (suc (suc d)) inner i)) (λ g. tok w.Semicolon refl (λ s. yields))))
       (into w.Semicolon refl (rule_expr_with (suc (suc d)) inner i) (λ x. tok w.Semicolon refl (λ s. yields)))
 
@@ -310,16 +337,16 @@ module _ (d : ℕ) (inner : Option (Parser Expr)) (i : Inner (suc (suc d)) inner
   unfolding quit_statement
   rule_quit = tok w.Quit refl (λ a. tok w.Semicolon refl (λ s. yields))
 
-  rule_after_ideal : (a : Token) → Rule strict (suc (suc d)) (suc (suc d)) (after_ideal inner a) (Or (AsIdeal a) (Seq (Called a) Printed)) []
+  rule_after_ideal : (a : Token) → Rule strict (suc (suc d)) (suc (suc d)) (after_ideal inner a) (Or (AsIdeal a) (Seq (Called (ideal_name a)) Printed)) []
   unfolding after_ideal
   rule_after_ideal a =
-      rule_when (is w.Name) (starts_takes w.Name) (λ b xs rest h e. called_head (is w.Name) a refl b xs rest h)
+      rule_when (is w.Name) (starts_takes w.Name) (λ b xs rest h e. called_head (is w.Name) (ideal_name a) refl b xs rest h)
       (tok w.Name refl (λ n. into w.Semicolon refl (rule_maybe_values (suc (suc d)) inner i) (λ v. tok w.Semicolon refl (λ s. yields))))
-      (rule_then (rule_called (suc (suc d)) inner i a) (λ b. rule_printed b))
+      (rule_then (rule_called (suc (suc d)) inner i (ideal_name a)) (λ b. rule_printed b))
 
   rule_ideal : Rule strict (suc (suc d)) (suc (suc d)) (ideal_with inner) (Of start.Ideal) []
   unfolding ideal_with
-  rule_ideal = tok w.Ideal refl (λ a. rule_after_ideal a)
+  rule_ideal = tok (w.Function fn.Ideal) refl (λ a. rule_after_ideal a)
 
   rule_assign : (n : Token) → Rule strict (suc (suc d)) (suc (suc d)) (assign_with inner n) (AsAssign n) []
   unfolding assign_with
@@ -388,4 +415,4 @@ statement_starts _ _ rest (st.short a e n s ha he hn z) = ap not_end ha
 statement_starts _ _ rest (st.quit a s ha z) = ap not_end ha
 statement_starts _ _ rest (st.assign n e s l ls h he hl z) = ap not_end h
 statement_starts _ _ rest (st.assign_entry n o i c j k e s x xs h ho hi hc hj hk he hx z) = ap not_end h
-statement_starts _ _ rest (st.print s x xs hx z) = ap (head_is not_end) (append_assoc xs (s ∷ []) rest) ∙ expr_head not_end true (record { at_int = refl; at_name = refl; at_ideal = refl; at_function = refl; at_open = refl }) refl refl x xs (s ∷ rest) hx
+statement_starts _ _ rest (st.print s x xs hx z) = ap (head_is not_end) (append_assoc xs (s ∷ []) rest) ∙ expr_head not_end true (record { at_int = refl; at_name = refl; at_function = each_function (λ f. not_end (w.Function f) ≡ true) refl refl refl refl refl refl refl refl refl refl; at_open = refl }) refl refl x xs (s ∷ rest) hx

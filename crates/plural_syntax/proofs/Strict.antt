@@ -1,19 +1,19 @@
 -- Levels: a step that no end has, and what is read inside parentheses.
-use Rattle.std.proofs.Common.{◌≡◌, ℕ, zero, suc, Bool, true, false, cond, [], ◌∷◌, ◌++◌, List, Result, Ok, Err, Option, Some, None, ◌⊎◌, inl, inr, refl, sym, ap, subst, ◌∙◌}
+use Rattle.std.proofs.Common.{◌≡◌, ℕ, zero, suc, Bool, true, false, cond, [], ◌∷◌, ◌++◌, List, Err, Option, Some, None, inr, refl, sym, ap, subst, ◌∙◌}
 use Rattle.plural_lexer.specs.declared.token.Token.{Token}
 use Rattle.plural_syntax.specs.declared.word.Word.{Word}
 use Rattle.plural_syntax.specs.declared.word.Word.TheVariants as w
 use Rattle.plural_syntax.specs.Words.{Lexeme, word, is, head_is}
 use Rattle.plural_syntax.specs.Levels.{Step, levels}
 use Rattle.plural_syntax.specs.Grammar.{Lang}
-use Rattle.plural_syntax.specs.Reading.{Why, Parser, pure, ◌>>=◌, take, level}
+use Rattle.plural_syntax.specs.Reading.{Parser, level}
 use Rattle.plural_syntax.specs.Reading.Why.{unexpected, deep}
 use Rattle.plural_syntax.proofs.Words.{sample, word-sample, same_word, is_word}
-use Rattle.plural_syntax.proofs.Readers.{head, head_is-same, Begins, Reads, Stops, Seq, Takes, Nothing}
+use Rattle.plural_syntax.proofs.Readers.{head_is-same, Begins, Stops, Seq, Takes, Nothing}
 use Rattle.plural_syntax.proofs.Readers.Seq.{seq}
 use Rattle.plural_syntax.proofs.Readers.Takes.{takes}
 use Rattle.plural_syntax.proofs.Readers.Nothing.{nothing}
-use Rattle.plural_syntax.proofs.Finders.{Fine, IsDeep, Finds}
+use Rattle.plural_syntax.proofs.Finders.{Fine, IsDeep}
 use Rattle.plural_syntax.proofs.Rules.{Rule, in_set, rule_from, tok, into, yields}
 
 -- the levels that are left behind a token other than an end

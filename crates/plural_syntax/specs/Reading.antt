@@ -1,5 +1,5 @@
 -- How tokens are read, by one token ahead: what the code computes. That it is the grammar is proved.
-use Rattle.std.specs.Prelude.{ℕ, zero, suc, ◌≡◌, ◌==◌, Bool, not, cond, List, [], ◌∷◌, length, Option, Some, None, Result, Ok, Err}
+use Rattle.std.specs.Prelude.{ℕ, zero, suc, ◌≡◌, Bool, not, cond, List, [], ◌∷◌, length, Option, Some, None, Result, Ok, Err}
 use Rattle.std.specs.Option.{option_map}
 use Rattle.plural_lexer.specs.declared.token.Token.{Token}
 use denote.Bor.{Bor}
@@ -9,7 +9,10 @@ use Rattle.plural_syntax.specs.declared.word.Word.{Word}
 use Rattle.plural_syntax.specs.declared.word.Word.TheVariants as w
 use Rattle.plural_syntax.specs.declared.statements.Start.{Start}
 use Rattle.plural_syntax.specs.declared.statements.Start.TheVariants as start
-use Rattle.plural_syntax.specs.Words.{Lexeme, word, lexemes, is, is_either, next, head_is}
+use Rattle.plural_syntax.specs.Words.{Lexeme, word, lexemes, is, is_either, next, head_is, function_of, names_function}
+use Rattle.plural_syntax.specs.declared.tree.Function.{Function}
+use Rattle.plural_syntax.specs.declared.tree.Function.TheVariants as fn
+use Rattle.plural_syntax.specs.declared.tree.FunctionName.{FunctionName}
 use Rattle.plural_syntax.specs.declared.tree.Base.{Base}
 use Rattle.plural_syntax.specs.declared.tree.Base.TheVariants as base
 use Rattle.plural_syntax.specs.declared.tree.Scaled.{Scaled}
@@ -69,6 +72,15 @@ abbrev pub take : Word → Parser Token
 take v [] = Err (unexpected, [])
 take v (l ∷ ls) = cond (is v (word l)) (Ok (l.token, ls)) (Err (unexpected, l ∷ ls))
 
+-- the name of a function
+abbrev pub named_by : Option Function → Lexeme → Parser FunctionName
+named_by None l ls = Err (unexpected, l ∷ ls)
+named_by (Some f) l ls = Ok (record { token = l.token; function = f }, ls)
+
+abbrev pub function_name : Parser FunctionName
+function_name [] = Err (unexpected, [])
+function_name (l ∷ ls) = named_by (function_of (word l)) l ls
+
 -- by the next token
 abbrev pub when : {A : Type 0} → (Word → Bool) → Parser A → Parser A → Parser A
 when t p q ls = cond (head_is t ls) (p ls) (q ls)
@@ -125,14 +137,14 @@ unfoldable pub pair_with : Parser Expr → Parser ExprPair
 pair_with expr = expr >>= λ e. take w.Comma >>= λ c. expr >>= λ f. pure (record { first = e; comma = c; second = f })
 
 module _ (inner : Option (Parser Expr)) where
-  unfoldable pub called_with : Token → Parser Base
+  unfoldable pub called_with : FunctionName → Parser Base
   called_with f = level (option_map list_with inner) >>= λ g. pure (base.Call f g.0 g.1 g.2)
 
   unfoldable pub base_with : Parser Base
   base_with =
       when (is w.Int) (take w.Int >>= λ a. pure (base.Int a))
       (when (is w.Name) (take w.Name >>= λ a. maybe w.OpenIndex index >>= λ i. pure (base.Name a i))
-      (when (is_either w.Ideal w.Function) (take_either w.Ideal w.Function >>= called_with)
+      (when names_function (function_name >>= called_with)
       (level inner >>= λ g. pure (base.Group g.0 g.1 g.2))))
 
   unfoldable pub factor_with : Parser Factor
@@ -198,7 +210,7 @@ start_of (Some w.Ring) = start.Ring
 start_of (Some w.SetRing) = start.SetRing
 start_of (Some w.Def) = start.Def
 start_of (Some w.Poly) = start.Poly
-start_of (Some w.Ideal) = start.Ideal
+start_of (Some (w.Function fn.Ideal)) = start.Ideal
 start_of (Some w.Module) = start.Module
 start_of (Some w.Matrix) = start.Matrix
 start_of (Some w.Option) = start.Option
@@ -258,10 +270,10 @@ module _ (inner : Option (Parser Expr)) where
   unfoldable pub after_ideal : Token → Parser Statement
   after_ideal a =
       when (is w.Name) (take w.Name >>= λ n. maybe w.Equals values_with >>= λ v. take w.Semicolon >>= λ s. pure (statement.Ideal a n v s))
-      (called_with inner a >>= printed_with)
+      (called_with inner (record { token = a; function = fn.Ideal }) >>= printed_with)
 
   unfoldable pub ideal_with : Parser Statement
-  ideal_with = take w.Ideal >>= after_ideal
+  ideal_with = take (w.Function fn.Ideal) >>= after_ideal
 
   unfoldable pub module_with : Parser Statement
   module_with = take w.Module >>= λ a. take w.Name >>= λ n. maybe w.Equals value_with >>= λ v. take w.Semicolon >>= λ s. pure (statement.Module a n v s)

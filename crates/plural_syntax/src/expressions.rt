@@ -6,9 +6,9 @@ ghost use Rattle.plural_syntax.specs.Words.{is, is_either, lexemes};
 ghost use Rattle.plural_syntax.specs.Reading as spec;
 
 use crate::levels::Levels;
-use crate::reading::{Stop, maybe_index, maybe_power, take, take_either};
-use crate::tree::{Added, Base, Expr, ExprAfter, ExprList, Factor, Scaled, Term};
-use crate::word::{Word, next_is, next_is_either};
+use crate::reading::{Stop, function_name, maybe_index, maybe_power, take, take_either};
+use crate::tree::{Added, Base, Expr, ExprAfter, ExprList, Factor, FunctionName, Scaled, Term};
+use crate::word::{Word, next_is, next_is_either, next_is_function};
 use plural_lexer::Token;
 use sqlite_items::{Boxed, Items};
 use std::alloc::Global;
@@ -95,23 +95,23 @@ fn inner_arguments<'a>(
     Ok(((opening, Boxed::new(alloc, found)?, closing), rest))
 }
 
-/// A call, behind its function.
+/// A call, behind the name of its function.
 #[cycle(read)]
 #[tactic(auto, unfolding(crate::specs::Reading::called_with))]
 pub fn called<'a>(
     alloc: Global,
     bytes: &[u8],
     levels: &mut Levels,
-    function: Token,
+    name: FunctionName,
     tokens: &'a [Token],
 ) -> Result<(Base, &'a [Token]), Stop<'a>>
-    ensures value { spec.Gives bytes.now result (spec.called_with (spec.inside levels.old) function (lexemes bytes.now tokens.now)) }
+    ensures value { spec.Gives bytes.now result (spec.called_with (spec.inside levels.old) name (lexemes bytes.now tokens.now)) }
     ensures shorter { IfOk result (λ x. length x.1.now < length tokens.now) }
     ensures same { OnOk result (levels.new ≡ levels.old) }
 {
     let ((opening, arguments, closing), rest) = arguments(alloc, bytes, levels, tokens)?;
     let base = Base::Call {
-        function,
+        name,
         opening,
         arguments,
         closing,
@@ -138,9 +138,9 @@ fn base<'a>(
         let (name, rest) = take(bytes, tokens, Word::Name)?;
         let (index, rest) = maybe_index(bytes, rest)?;
         Ok((Base::Name { name, index }, rest))
-    } else if next_is_either(bytes, tokens, Word::Ideal, Word::Function) {
-        let (function, rest) = take_either(bytes, tokens, Word::Ideal, Word::Function)?;
-        called(alloc, bytes, levels, function, rest)
+    } else if next_is_function(bytes, tokens) {
+        let (name, rest) = function_name(bytes, tokens)?;
+        called(alloc, bytes, levels, name, rest)
     } else {
         let ((opening, expr, closing), rest) = group(alloc, bytes, levels, tokens)?;
         let base = Base::Group {

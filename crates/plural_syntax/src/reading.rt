@@ -4,8 +4,8 @@ ghost use Rattle.std.specs.Prelude.{◌≡◌, ◌<◌, ◌≤◌, length, IfOk}
 ghost use Rattle.plural_syntax.specs.Words.{is, lexemes};
 ghost use Rattle.plural_syntax.specs.Reading as spec;
 
-use crate::tree::{Index, Power, TokenAfter, TokenGroup, TokenList};
-use crate::word::{Word, next_is};
+use crate::tree::{FunctionName, Index, Power, TokenAfter, TokenGroup, TokenList};
+use crate::word::{Word, next_function, next_is};
 use plural_lexer::Token;
 use sqlite_items::Items;
 use std::alloc::{AllocError, Global};
@@ -58,6 +58,22 @@ pub fn take_either<'a>(
         take(bytes, tokens, one)
     } else {
         take(bytes, tokens, other)
+    }
+}
+
+pub fn function_name<'a>(
+    bytes: &[u8],
+    tokens: &'a [Token],
+) -> Result<(FunctionName, &'a [Token]), Stop<'a>>
+    ensures value { spec.Gives bytes.now result (spec.function_name (lexemes bytes.now tokens.now)) }
+    ensures shorter { IfOk result (λ x. length x.1.now < length tokens.now) }
+{
+    match next_function(bytes, tokens) {
+        Some(function) => {
+            let token = tokens[0];
+            Ok((FunctionName { token, function }, &tokens[1..]))
+        }
+        None => Err(Stop::Unexpected(tokens)),
     }
 }
 

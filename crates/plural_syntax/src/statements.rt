@@ -9,7 +9,7 @@ use crate::expressions::{called, expr, list, resumed};
 use crate::levels::Levels;
 use crate::reading::{Stop, maybe_index, take, token_group};
 use crate::tree::{
-    Base, ExprPair, Index, Item, ItemAfter, ItemList, Order, Side, Statement, TokenGroup, Value,
+    Base, ExprPair, Function, FunctionName, Index, Item, ItemAfter, ItemList, Order, Side, Statement, TokenGroup, Value,
     Values, Vars,
 };
 use crate::word::{Word, next, next_is};
@@ -47,7 +47,7 @@ fn start_of(next: Option<Word>) -> Start
         Some(Word::SetRing) => Start::SetRing,
         Some(Word::Def) => Start::Def,
         Some(Word::Poly) => Start::Poly,
-        Some(Word::Ideal) => Start::Ideal,
+        Some(Word::Function(Function::Ideal)) => Start::Ideal,
         Some(Word::Module) => Start::Module,
         Some(Word::Matrix) => Start::Matrix,
         Some(Word::Option) => Start::Option,
@@ -620,7 +620,11 @@ fn after_ideal<'a>(
         };
         Ok((statement, rest))
     } else {
-        let (base, rest) = called(alloc, bytes, levels, keyword, tokens)?;
+        let name = FunctionName {
+            token: keyword,
+            function: Function::Ideal,
+        };
+        let (base, rest) = called(alloc, bytes, levels, name, tokens)?;
         printed(alloc, bytes, levels, base, rest)
     }
 }
@@ -636,7 +640,7 @@ fn ideal_statement<'a>(
     ensures shorter { IfOk result (λ x. length x.1.now < length tokens.now) }
     ensures same { OnOk result (levels.new ≡ levels.old) }
 {
-    let (keyword, rest) = take(bytes, tokens, Word::Ideal)?;
+    let (keyword, rest) = take(bytes, tokens, Word::Function(Function::Ideal))?;
     after_ideal(alloc, bytes, levels, keyword, rest)
 }
 

@@ -1,9 +1,7 @@
-use Rattle.std.proofs.Common.{◌≡◌, ℕ, ◌<◌, ◌≤◌, ◌∙◌, refl, sym, ap, subst, arith, Some, None}
+use Rattle.std.proofs.Common.{◌∙◌, sym, arith}
 use Rattle.std.proofs.lemmas.Result.{err_from_is_err_and}
-use Rattle.std.specs.Option.{option_map}
 use Rattle.plural_syntax.specs.declared.word.Word.TheVariants as w
 use Rattle.plural_syntax.specs.Words.{is, is_either, lexemes}
-use Rattle.plural_syntax.specs.Reading as spec
 use Rattle.plural_syntax.proofs.ExprRules.{scaled_starts, added_starts, expr_after_starts}
 use Rattle.plural_syntax.proofs.Strict.{blocked_deep, blocked_unexpected}
 use Rattle.plural_syntax.proofs.Loops.{repeats_end, repeats_fail, repeats_go, scaled_rule, added_rule, expr_after_rule, inside_zero, inside_step}

@@ -1,4 +1,3 @@
-use Rattle.std.proofs.Common.{◌≡◌, ◌≢◌, List, Result, Err}
 use Rattle.plural_syntax.proofs.OneOutcome.{one_outcome}
 use Rattle.plural_syntax.proofs.laws.one_answer.Goals as goal
 

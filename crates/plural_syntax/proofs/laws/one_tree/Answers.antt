@@ -1,4 +1,3 @@
-use Rattle.std.proofs.Common.{◌≡◌, List}
 use Rattle.plural_syntax.proofs.ScriptRules.{one_script}
 use Rattle.plural_syntax.proofs.laws.one_tree.Goals as goal
 

@@ -1,4 +1,4 @@
-use Rattle.std.proofs.Common.{◌≡◌, ◌∙◌, sym, ap, subst, arith}
+use Rattle.std.proofs.Common.{subst}
 use Rattle.plural_syntax.specs.Reading.{Fails, script}
 use Rattle.plural_syntax.specs.Words.{lexemes}
 use Rattle.plural_syntax.proofs.ScriptRules.{parse_ok, bad_at, deep_at, bad_somewhere, too_deep_somewhere}

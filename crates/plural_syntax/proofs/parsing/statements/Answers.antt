@@ -1,4 +1,4 @@
-use Rattle.std.proofs.Common.{◌≡◌, ◌∙◌, sym, arith, refl, ℕ, ◌<◌, ◌≤◌}
+use Rattle.std.proofs.Common.{◌∙◌, sym, arith}
 use Rattle.std.proofs.lemmas.Result.{err_from_is_err_and}
 use Rattle.plural_syntax.specs.Words.{lexemes}
 use Rattle.plural_syntax.specs.Reading as spec

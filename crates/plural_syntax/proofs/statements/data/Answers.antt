@@ -1,6 +1,4 @@
-use Rattle.std.proofs.Common.{◌≡◌, ℕ, ◌<◌, ◌≤◌, ◌∙◌, sym, arith, Some, None}
-use Rattle.std.specs.Option.{option_map}
-use Rattle.plural_syntax.specs.Reading as spec
+use Rattle.std.proofs.Common.{◌∙◌, sym, arith}
 use Rattle.plural_syntax.proofs.Strict.{blocked_deep, blocked_unexpected}
 use Rattle.plural_syntax.proofs.Loops.{inside_zero, inside_step}
 use Rattle.plural_syntax.proofs.statements.data.Goals as goal

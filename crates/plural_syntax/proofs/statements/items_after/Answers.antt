@@ -1,8 +1,7 @@
-use Rattle.std.proofs.Common.{◌≡◌, ◌∙◌, sym, arith, refl, ℕ, ◌<◌, ◌≤◌}
+use Rattle.std.proofs.Common.{◌∙◌, sym, arith}
 use Rattle.std.proofs.lemmas.Result.{err_from_is_err_and}
 use Rattle.plural_syntax.specs.declared.word.Word.TheVariants as w
 use Rattle.plural_syntax.specs.Words.{is, lexemes}
-use Rattle.plural_syntax.specs.Reading as spec
 use Rattle.plural_syntax.proofs.PartRules.{item_after_starts, rule_item_after}
 use Rattle.plural_syntax.proofs.Loops.{repeats_end, repeats_fail, repeats_go}
 use Rattle.plural_syntax.proofs.statements.items_after.Goals as goal

@@ -1,4 +1,4 @@
-use Rattle.std.proofs.Common.{◌≡◌, ◌∙◌, sym, ap}
+use Rattle.std.proofs.Common.{◌∙◌, sym, ap}
 use Rattle.plural_syntax.specs.Words.{is}
 use Rattle.plural_syntax.proofs.Firsts.{first_is}
 use Rattle.plural_syntax.proofs.word.next_is.Goals as goal

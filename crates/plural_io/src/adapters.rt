@@ -1,5 +1,7 @@
 // Sources and sinks over std's readers and writers. They tell no bytes and count only faults.
-ghost use Rattle.std.specs.Prelude.{◌≡◌, ℕ, None};
+ghost use Rattle.std.specs.Prelude.{◌≡◌, ℕ, ◌+◌, ◌≤◌, None, length};
+ghost use Rattle.plural_io.specs.Faults.{after_read, after_write};
+ghost use Rattle.plural_io.specs.Reads.{IsRead, IsWrite};
 
 use crate::{Got, Put, Sink, Source};
 use std::io::{Read, Write};
@@ -35,7 +37,14 @@ impl<R: Read + Drop> Source for StdSource<R> {
 
     ghost reads = { λ _. 0 };
 
-    fn read(&mut self, buf: &mut [u8]) -> Got {
+    fn read(&mut self, buf: &mut [u8]) -> Got
+        ensures count { self.new ≡ after_read result self.old }
+
+        // The trait's clauses.
+        ensures answer { IsRead result (length buf.old) buf.new None None self.old self.new }
+        ensures faults { self.old ≤ self.new }
+        ensures counted { 0 ≤ 0 + 1 }
+    {
         if buf.is_empty() {
             return Got::Bytes(0);
         }
@@ -80,7 +89,14 @@ impl<W: Write + Drop> Sink for StdSink<W> {
 
     ghost writes = { λ _. 0 };
 
-    fn write(&mut self, piece: &[u8]) -> Put {
+    fn write(&mut self, piece: &[u8]) -> Put
+        ensures count { self.new ≡ after_write result self.old }
+
+        // The trait's clauses.
+        ensures answer { IsWrite result piece.now None None self.old self.new }
+        ensures faults { self.old ≤ self.new }
+        ensures counted { 0 ≤ 0 + 1 }
+    {
         match self.inner.write(piece) {
             Ok(n) if n > 0 || piece.is_empty() => Put::Took(n),
             _ => {

@@ -37,17 +37,20 @@ impl From<AllocError> for ReadAllFault {
 pub fn read_all<S: Source>(alloc: Global, source: &mut S) -> Result<Vec<u8>, ReadAllFault>
     ensures ok { IfOk result (λ bytes.
         (S.left source.old ≡ in_front bytes.items (S.left source.new))
-        × NoneLeft (S.left source.new) × (length bytes.items ≤ READ_LIMIT)) }
+        × NoneLeft (S.left source.new) × (length bytes.items ≤ 1048576)) }
     ensures failed { result ≡ Err ReadAllFault.Failed
         → Rose (S.faults source.old) (S.faults source.new) }
+
+    // At most one buffer is read behind the limit.
     ensures too_long { result ≡ Err ReadAllFault.TooLong → (front : List ℕ)
-        × (READ_LIMIT < length front) × (S.left source.old ≡ in_front front (S.left source.new)) }
+        × (1048576 < length front) × (length front ≤ 1048576 + 4096)
+        × (S.left source.old ≡ in_front front (S.left source.new)) }
 
     // At any other fault the bytes that came are within the limit.
     ensures prefix { IfErr result (λ fault. fault ≢ ReadAllFault.TooLong → (front : List ℕ)
-        × (length front ≤ READ_LIMIT) × (S.left source.old ≡ in_front front (S.left source.new))) }
+        × (length front ≤ 1048576) × (S.left source.old ≡ in_front front (S.left source.new))) }
     ensures faults { S.faults source.old ≤ S.faults source.new }
-    ensures reads { S.reads source.new ≤ S.reads source.old + (READ_LIMIT + 1) }
+    ensures reads { S.reads source.new ≤ S.reads source.old + 1048577 }
 {
     let mut bytes = Vec::new(alloc);
     let mut buf = [0; BUFFER];

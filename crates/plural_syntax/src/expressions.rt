@@ -136,7 +136,7 @@ fn base<'a>(
         Ok((Base::Int { number }, rest))
     } else if next_is(bytes, tokens, Word::Name) {
         let (name, rest) = take(bytes, tokens, Word::Name)?;
-        let (index, rest) = maybe_index(bytes, rest)?;
+        let (index, rest) = maybe_index(alloc, bytes, rest)?;
         Ok((Base::Name { name, index }, rest))
     } else if next_is_function(bytes, tokens) {
         let (name, rest) = function_name(bytes, tokens)?;
@@ -165,7 +165,7 @@ fn factor<'a>(
     ensures same { OnOk result (levels.new ≡ levels.old) }
 {
     let (base, rest) = base(alloc, bytes, levels, tokens)?;
-    let (power, rest) = maybe_power(bytes, rest)?;
+    let (power, rest) = maybe_power(alloc, bytes, rest)?;
     Ok((Factor { base, power }, rest))
 }
 
@@ -374,7 +374,7 @@ pub fn resumed<'a>(
     ensures shorter { IfOk result (λ x. length x.1.now ≤ length tokens.now) }
     ensures same { OnOk result (levels.new ≡ levels.old) }
 {
-    let (power, rest) = maybe_power(bytes, tokens)?;
+    let (power, rest) = maybe_power(alloc, bytes, tokens)?;
     let (scaled, rest) = all_scaled(alloc, bytes, levels, rest)?;
     let (more, rest) = all_added(alloc, bytes, levels, rest)?;
     let first = Term {

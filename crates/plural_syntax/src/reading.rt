@@ -7,7 +7,7 @@ ghost use Rattle.plural_syntax.specs.Reading as spec;
 use crate::tree::{FunctionName, Index, Power, TokenAfter, TokenGroup, TokenList};
 use crate::word::{Word, next_function, next_is};
 use plural_lexer::Token;
-use sqlite_items::Items;
+use sqlite_items::{Boxed, Items};
 use std::alloc::{AllocError, Global};
 
 /// Where reading stopped: the tokens from the bad one on.
@@ -181,15 +181,16 @@ fn index<'a>(bytes: &[u8], tokens: &'a [Token]) -> Result<(Index, &'a [Token]), 
 }
 
 pub fn maybe_index<'a>(
+    alloc: Global,
     bytes: &[u8],
     tokens: &'a [Token],
-) -> Result<(Option<Index>, &'a [Token]), Stop<'a>>
+) -> Result<(Option<Boxed<Index>>, &'a [Token]), Stop<'a>>
     ensures value { spec.Gives bytes.now result (spec.maybe Word.OpenIndex spec.index (lexemes bytes.now tokens.now)) }
     ensures shorter { IfOk result (λ x. length x.1.now ≤ length tokens.now) }
 {
     if next_is(bytes, tokens, Word::OpenIndex) {
         let (found, rest) = index(bytes, tokens)?;
-        Ok((Some(found), rest))
+        Ok((Some(Boxed::new(alloc, found)?), rest))
     } else {
         Ok((None, tokens))
     }
@@ -206,15 +207,16 @@ fn power<'a>(bytes: &[u8], tokens: &'a [Token]) -> Result<(Power, &'a [Token]), 
 }
 
 pub fn maybe_power<'a>(
+    alloc: Global,
     bytes: &[u8],
     tokens: &'a [Token],
-) -> Result<(Option<Power>, &'a [Token]), Stop<'a>>
+) -> Result<(Option<Boxed<Power>>, &'a [Token]), Stop<'a>>
     ensures value { spec.Gives bytes.now result (spec.maybe Word.Power spec.power (lexemes bytes.now tokens.now)) }
     ensures shorter { IfOk result (λ x. length x.1.now ≤ length tokens.now) }
 {
     if next_is(bytes, tokens, Word::Power) {
         let (found, rest) = power(bytes, tokens)?;
-        Ok((Some(found), rest))
+        Ok((Some(Boxed::new(alloc, found)?), rest))
     } else {
         Ok((None, tokens))
     }

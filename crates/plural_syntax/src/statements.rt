@@ -14,7 +14,7 @@ use crate::tree::{
 };
 use crate::word::{Word, next, next_is};
 use plural_lexer::Token;
-use sqlite_items::Items;
+use sqlite_items::{Boxed, Items};
 use std::alloc::Global;
 
 /// The alternatives of a statement that the first token tells apart. A further alternative is a
@@ -63,16 +63,16 @@ fn vars<'a>(
     alloc: Global,
     bytes: &[u8],
     tokens: &'a [Token],
-) -> Result<(Vars, &'a [Token]), Stop<'a>>
+) -> Result<(Boxed<Vars>, &'a [Token]), Stop<'a>>
     ensures value { spec.Gives bytes.now result (spec.read_vars (lexemes bytes.now tokens.now)) }
     ensures shorter { IfOk result (λ x. length x.1.now < length tokens.now) }
 {
     if next_is(bytes, tokens, Word::Name) {
         let (name, rest) = take(bytes, tokens, Word::Name)?;
-        Ok((Vars::One { name }, rest))
+        Ok((Boxed::new(alloc, Vars::One { name })?, rest))
     } else {
         let (names, rest) = token_group(alloc, bytes, tokens, Word::Name)?;
-        Ok((Vars::Many { names }, rest))
+        Ok((Boxed::new(alloc, Vars::Many { names })?, rest))
     }
 }
 
@@ -157,13 +157,13 @@ fn order<'a>(
     alloc: Global,
     bytes: &[u8],
     tokens: &'a [Token],
-) -> Result<(Order, &'a [Token]), Stop<'a>>
+) -> Result<(Boxed<Order>, &'a [Token]), Stop<'a>>
     ensures value { spec.Gives bytes.now result (spec.read_order (lexemes bytes.now tokens.now)) }
     ensures shorter { IfOk result (λ x. length x.1.now < length tokens.now) }
 {
     if next_is(bytes, tokens, Word::Name) {
         let (item, rest) = item(alloc, bytes, tokens)?;
-        Ok((Order::One { item }, rest))
+        Ok((Boxed::new(alloc, Order::One { item })?, rest))
     } else {
         let (opening, rest) = take(bytes, tokens, Word::Open)?;
         let (items, rest) = item_list(alloc, bytes, rest)?;
@@ -173,12 +173,16 @@ fn order<'a>(
             items,
             closing,
         };
-        Ok((order, rest))
+        Ok((Boxed::new(alloc, order)?, rest))
     }
 }
 
 #[tactic(auto, unfolding(crate::specs::Reading::side))]
-fn side<'a>(bytes: &[u8], tokens: &'a [Token]) -> Result<(Side, &'a [Token]), Stop<'a>>
+fn side<'a>(
+    alloc: Global,
+    bytes: &[u8],
+    tokens: &'a [Token],
+) -> Result<(Boxed<Side>, &'a [Token]), Stop<'a>>
     ensures value { spec.Gives bytes.now result (spec.side (lexemes bytes.now tokens.now)) }
     ensures shorter { IfOk result (λ x. length x.1.now < length tokens.now) }
 {
@@ -190,7 +194,7 @@ fn side<'a>(bytes: &[u8], tokens: &'a [Token]) -> Result<(Side, &'a [Token]), St
         number,
         closing,
     };
-    Ok((side, rest))
+    Ok((Boxed::new(alloc, side)?, rest))
 }
 
 #[tactic(auto, unfolding(crate::specs::Reading::value_with))]
@@ -214,14 +218,14 @@ fn maybe_value<'a>(
     bytes: &[u8],
     levels: &mut Levels,
     tokens: &'a [Token],
-) -> Result<(Option<Value>, &'a [Token]), Stop<'a>>
+) -> Result<(Option<Boxed<Value>>, &'a [Token]), Stop<'a>>
     ensures value { spec.Gives bytes.now result (spec.maybe Word.Equals (spec.value_with (spec.inside levels.old)) (lexemes bytes.now tokens.now)) }
     ensures shorter { IfOk result (λ x. length x.1.now ≤ length tokens.now) }
     ensures same { OnOk result (levels.new ≡ levels.old) }
 {
     if next_is(bytes, tokens, Word::Equals) {
         let (found, rest) = value(alloc, bytes, levels, tokens)?;
-        Ok((Some(found), rest))
+        Ok((Some(Boxed::new(alloc, found)?), rest))
     } else {
         Ok((None, tokens))
     }
@@ -248,14 +252,14 @@ fn maybe_values<'a>(
     bytes: &[u8],
     levels: &mut Levels,
     tokens: &'a [Token],
-) -> Result<(Option<Values>, &'a [Token]), Stop<'a>>
+) -> Result<(Option<Boxed<Values>>, &'a [Token]), Stop<'a>>
     ensures value { spec.Gives bytes.now result (spec.maybe Word.Equals (spec.values_with (spec.inside levels.old)) (lexemes bytes.now tokens.now)) }
     ensures shorter { IfOk result (λ x. length x.1.now ≤ length tokens.now) }
     ensures same { OnOk result (levels.new ≡ levels.old) }
 {
     if next_is(bytes, tokens, Word::Equals) {
         let (found, rest) = values(alloc, bytes, levels, tokens)?;
-        Ok((Some(found), rest))
+        Ok((Some(Boxed::new(alloc, found)?), rest))
     } else {
         Ok((None, tokens))
     }
@@ -288,7 +292,7 @@ fn inner_data<'a>(
     bytes: &[u8],
     levels: &mut Levels,
     tokens: &'a [Token],
-) -> Result<((Token, ExprPair, Token), &'a [Token]), Stop<'a>>
+) -> Result<((Token, Boxed<ExprPair>, Token), &'a [Token]), Stop<'a>>
     requires { (0 < levels.old) × (levels.old ≤ 64) }
     ensures value { spec.Gives bytes.now result (spec.level (Some (spec.pair_with (spec.expr_with (spec.inside (levels.old - 1))))) (lexemes bytes.now tokens.now)) }
     ensures shorter { IfOk result (λ x. length x.1.now < length tokens.now) }
@@ -299,7 +303,7 @@ fn inner_data<'a>(
     let (found, rest) = pair(alloc, bytes, levels, rest)?;
     levels.leave();
     let (closing, rest) = take(bytes, rest, Word::Close)?;
-    Ok(((opening, found, closing), rest))
+    Ok(((opening, Boxed::new(alloc, found)?, closing), rest))
 }
 
 /// The data of an algebra, in parentheses.
@@ -308,7 +312,7 @@ fn data<'a>(
     bytes: &[u8],
     levels: &mut Levels,
     tokens: &'a [Token],
-) -> Result<((Token, ExprPair, Token), &'a [Token]), Stop<'a>>
+) -> Result<((Token, Boxed<ExprPair>, Token), &'a [Token]), Stop<'a>>
     ensures value { spec.Gives bytes.now result (spec.level (option_map spec.pair_with (spec.inside levels.old)) (lexemes bytes.now tokens.now)) }
     ensures shorter { IfOk result (λ x. length x.1.now < length tokens.now) }
     ensures same { OnOk result (levels.new ≡ levels.old) }
@@ -472,6 +476,7 @@ fn defined<'a>(
         Ok((statement, rest))
     } else {
         let (value, rest) = expr(alloc, bytes, levels, tokens)?;
+        let value = Boxed::new(alloc, value)?;
         let (semicolon, rest) = take(bytes, rest, Word::Semicolon)?;
         let statement = Statement::Def {
             keyword,
@@ -562,8 +567,8 @@ fn matrix_statement<'a>(
 {
     let (keyword, rest) = take(bytes, tokens, Word::Matrix)?;
     let (name, rest) = take(bytes, rest, Word::Name)?;
-    let (rows, rest) = side(bytes, rest)?;
-    let (columns, rest) = side(bytes, rest)?;
+    let (rows, rest) = side(alloc, bytes, rest)?;
+    let (columns, rest) = side(alloc, bytes, rest)?;
     let (values, rest) = maybe_values(alloc, bytes, levels, rest)?;
     let (semicolon, rest) = take(bytes, rest, Word::Semicolon)?;
     let statement = Statement::Matrix {
@@ -591,6 +596,7 @@ fn printed<'a>(
     ensures same { OnOk result (levels.new ≡ levels.old) }
 {
     let (value, rest) = resumed(alloc, bytes, levels, base, tokens)?;
+    let value = Boxed::new(alloc, value)?;
     let (semicolon, rest) = take(bytes, rest, Word::Semicolon)?;
     Ok((Statement::Print { value, semicolon }, rest))
 }
@@ -658,6 +664,7 @@ fn assign<'a>(
 {
     let (equals, rest) = take(bytes, tokens, Word::Equals)?;
     let (list, rest) = list(alloc, bytes, levels, rest)?;
+    let list = Boxed::new(alloc, list)?;
     let (semicolon, rest) = take(bytes, rest, Word::Semicolon)?;
     let statement = Statement::Assign {
         name,
@@ -692,6 +699,7 @@ fn assign_entry<'a>(
     };
     let (equals, rest) = take(bytes, tokens, Word::Equals)?;
     let (value, rest) = expr(alloc, bytes, levels, rest)?;
+    let value = Boxed::new(alloc, value)?;
     let (semicolon, rest) = take(bytes, rest, Word::Semicolon)?;
     let statement = Statement::AssignEntry {
         name,
@@ -714,7 +722,7 @@ fn after_name<'a>(
     bytes: &[u8],
     levels: &mut Levels,
     name: Token,
-    index: Option<Index>,
+    index: Option<Boxed<Index>>,
     tokens: &'a [Token],
 ) -> Result<(Statement, &'a [Token]), Stop<'a>>
     ensures value { spec.Gives bytes.now result (spec.after_name (spec.inside levels.old) name index (lexemes bytes.now tokens.now)) }
@@ -724,7 +732,7 @@ fn after_name<'a>(
     if next_is(bytes, tokens, Word::Equals) {
         match index {
             None => assign(alloc, bytes, levels, name, tokens),
-            Some(index) => assign_entry(alloc, bytes, levels, name, index, tokens),
+            Some(index) => assign_entry(alloc, bytes, levels, name, index.into_inner(), tokens),
         }
     } else {
         printed(alloc, bytes, levels, Base::Name { name, index }, tokens)
@@ -743,7 +751,7 @@ fn named_statement<'a>(
     ensures same { OnOk result (levels.new ≡ levels.old) }
 {
     let (name, rest) = take(bytes, tokens, Word::Name)?;
-    let (index, rest) = maybe_index(bytes, rest)?;
+    let (index, rest) = maybe_index(alloc, bytes, rest)?;
     after_name(alloc, bytes, levels, name, index, rest)
 }
 
@@ -759,6 +767,7 @@ fn expr_statement<'a>(
     ensures same { OnOk result (levels.new ≡ levels.old) }
 {
     let (value, rest) = expr(alloc, bytes, levels, tokens)?;
+    let value = Boxed::new(alloc, value)?;
     let (semicolon, rest) = take(bytes, rest, Word::Semicolon)?;
     Ok((Statement::Print { value, semicolon }, rest))
 }

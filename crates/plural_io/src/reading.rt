@@ -40,11 +40,12 @@ pub fn read_all<S: Source>(alloc: Global, source: &mut S) -> Result<Vec<u8>, Rea
         × NoneLeft (S.left source.new) × (length bytes.items ≤ 1048576)) }
     ensures failed { result ≡ Err ReadAllFault.Failed
         → Rose (S.faults source.old) (S.faults source.new) }
-
-    // At most one buffer is read behind the limit.
     ensures too_long { result ≡ Err ReadAllFault.TooLong → (front : List ℕ)
-        × (1048576 < length front) × (length front ≤ 1048576 + 4096)
-        × (S.left source.old ≡ in_front front (S.left source.new)) }
+        × (1048576 < length front) × (S.left source.old ≡ in_front front (S.left source.new)) }
+
+    // Then at most 4096 bytes were read behind the limit.
+    ensures behind { result ≡ Err ReadAllFault.TooLong → (front : List ℕ)
+        × (length front ≤ 1048576 + 4096) × (S.left source.old ≡ in_front front (S.left source.new)) }
 
     // At any other fault the bytes that came are within the limit.
     ensures prefix { IfErr result (λ fault. fault ≢ ReadAllFault.TooLong → (front : List ℕ)

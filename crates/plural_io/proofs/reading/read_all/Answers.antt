@@ -8,7 +8,14 @@ returns-then-n-len-clause-too_long g c =
     let new = c.in-Bytes.ensures.answer in
     let fits : c.in-Bytes.n ≤ length c.read.new.buf = omega (arith, new.within) in
     let all = read_on _ _ _ c.loop-n.bytes.items c.read.new.buf _ _ c.loop-n.invariant.told new fits in
-    λ _. (all.0, omega arith, omega (arith, all.1, new.within), all.2)
+    λ _. (all.0, omega arith, all.2)
+
+pub returns-then-n-len-clause-behind : goal.returns-then-n-len-clause-behind
+returns-then-n-len-clause-behind g c =
+    let new = c.in-Bytes.ensures.answer in
+    let fits : c.in-Bytes.n ≤ length c.read.new.buf = omega (arith, new.within) in
+    let all = read_on _ _ _ c.loop-n.bytes.items c.read.new.buf _ _ c.loop-n.invariant.told new fits in
+    λ _. (all.0, omega (arith, all.1, new.within), all.2)
 
 pub returns-in_err-extend_from_slice-in-Bytes-clause-prefix :
     goal.returns-in_err-extend_from_slice-in-Bytes-clause-prefix

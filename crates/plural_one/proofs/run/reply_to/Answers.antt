@@ -15,4 +15,4 @@ returns-in_ok-reply_to_script-in-Ok-clause-answer g c =
 
 pub returns-in-Err-clause-answer : goal.returns-in-Err-clause-answer
 returns-in-Err-clause-answer g c =
-    rw c.reply_to_fault.ensures (fault_answered string_bytes c.args.words.now _ _ c.in-Err.fault c.if-not-is_empty.ensures (λ e. let read = c.in-Err.ensures.too_long (ap Err e) in (read.0, read.1, read.3)))
+    rw c.reply_to_fault.ensures (fault_answered string_bytes c.args.words.now _ _ c.in-Err.fault c.if-not-is_empty.ensures (λ e. c.in-Err.ensures.too_long (ap Err e)))

@@ -120,7 +120,7 @@ module _ (A : Algebra) (ok : IsGAlgebra A) where
     module _ (mode : Mode) where
       run_lines : (H : List Polynomial) (entries : List Entry) (G : List Polynomial) → IsReplay A gens mode H entries G → Each (IsElement A) H → LinesHold A gens H (made_lines entries) G
       run_lines H [] G replay elements = replay
-      run_lines H (Skipped job k ∷ entries) G replay elements = run_lines H entries G replay elements
+      run_lines H (Skipped job k ∷ entries) G replay elements = run_lines H entries G replay.1 elements
       run_lines H (Zero job trace ∷ entries) G replay elements = run_lines H entries G replay.1 elements
       run_lines H (New job trace scale ∷ entries) G replay elements =
           let r : Polynomial = replay.0 in

@@ -16,6 +16,7 @@ use Rattle.word_model.specs.Reduction.{element}
 use Rattle.word_model.specs.Jobs.{pair_lcm, s_polynomial}
 use Rattle.word_model.specs.Machine.{Journal, machine, IsElement}
 use Rattle.word_model.specs.Ideals.{ReducesToZero, StartReducesToZero}
+use Rattle.word_model.specs.Inside.Sound.{IsOfMode}
 use Rattle.word_model.specs.declared.records.Job.{Job}
 use Rattle.word_model.specs.declared.records.Job.TheVariants.{Seed, Pair, Right}
 use Rattle.word_model.specs.declared.records.Mode.{Mode}
@@ -35,7 +36,7 @@ use Rattle.word_model.proofs.Criterion.{plain, low_is_sum, IsWithin, leads_at, w
 use Rattle.word_model.proofs.SPolynomials.{pair_number, s_polynomial-is, s_polynomial-below, s_polynomial-value}
 use Rattle.word_model.proofs.ReducedToZero.{zero_reduced}
 use Rattle.word_model.proofs.Settled.{Treats, IsNumber, IsSettled}
-use Rattle.word_model.proofs.Replays.{pair_of_mode, IsOfMode}
+use Rattle.word_model.proofs.Replays.{pair_of_mode}
 use Rattle.word_model.proofs.FinishedRuns.{IsTold, machine-told}
 use Rattle.word_model.proofs.Chains.{is_there, all_linked}
 use Rattle.word_model.proofs.Starts.{start_of-seed}

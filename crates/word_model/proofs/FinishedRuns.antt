@@ -6,8 +6,9 @@ use Rattle.monomials.specs.Polynomials.{Polynomial, Each, IsPolynomial, poly_sca
 use Rattle.word_model.specs.Words.{Algebra}
 use Rattle.word_model.specs.Conditions.{IsGAlgebra}
 use Rattle.word_model.specs.Reduction.{reduce}
-use Rattle.word_model.specs.Jobs.{start_of, same_job, is_queued, without, least_job, chain_witness}
+use Rattle.word_model.specs.Jobs.{start_of, same_job, is_queued, without, least_job, is_witness, chain_witness}
 use Rattle.word_model.specs.Machine.{State, Turn, On, Over, Journal, step, seeds_from, first_state, jobs_of, pairs_with, with_entry, with_element, turn_of_start, turn_of_job, most_elements, after_turn, ends_with, run_within, machine, IsElement}
+use Rattle.word_model.specs.Inside.Sound.{IsOfMode}
 use Rattle.word_model.specs.declared.records.Job.{Job}
 use Rattle.word_model.specs.declared.records.Job.TheVariants.{Seed, Pair, Right}
 use Rattle.word_model.specs.declared.records.Mode.{Mode}
@@ -18,8 +19,9 @@ use Rattle.word_model.specs.declared.records.Outcome.{Outcome}
 use Rattle.word_model.specs.declared.records.Outcome.TheVariants.{Finished, BudgetSpent, BasisFull, DegreeOver}
 use Rattle.word_model.proofs.Steps.{Each-append, Each-filter, least_job-one, IsTreated, first_state-is, step-keeps}
 use Rattle.word_model.proofs.JobLists.{queued-seeds_from}
-use Rattle.word_model.proofs.Settled.{IsSettled, treats_last}
-use Rattle.word_model.proofs.Replays.{IsOfMode, IsDue, IsTreatment, IsReplay, replay_more, IsRun, entry_due, skipped_settled, element_due}
+use Rattle.word_model.proofs.Settled.{IsSettled, IsNumber, treats_last}
+use Rattle.word_model.proofs.LeastNumbers.{IsLeast, least_number-found}
+use Rattle.word_model.proofs.Replays.{IsDue, IsTreatment, IsReplay, replay_more, IsRun, entry_due, skipped_settled, element_due}
 
 -- ---- the mode of jobs
 
@@ -40,6 +42,15 @@ seeds_from-mode TwoSided s H = all_two_sided _
 seeds_from-mode Left s [] = tt
 seeds_from-mode Left s ([] ∷ H) = seeds_from-mode Left (suc s) H
 seeds_from-mode Left s ((t ∷ f) ∷ H) = (tt, seeds_from-mode Left (suc s) H)
+
+-- a witness is one of the elements
+witness-number : (G : List Polynomial) (queue : List Job) (job : Job) (k : ℕ) → chain_witness G queue job ≡ Some k → IsNumber G k
+unfolding chain_witness
+witness-number G queue (Seed s) k e = cc
+witness-number G queue (Pair i j) k e =
+    let least : IsLeast (is_witness G queue i j) 1 (length G) k = least_number-found (is_witness G queue i j) 1 (length G) k e in
+    (least.low, omega (arith, least.high))
+witness-number G queue (Right i v) k e = cc
 
 module _ (A : Algebra) (ok : IsGAlgebra A) (gens : List Polynomial) (sorted : Each (IsPolynomial A.p A.order) gens) (mode : Mode) where
   -- what a run has but for its state
@@ -105,7 +116,7 @@ module _ (A : Algebra) (ok : IsGAlgebra A) (gens : List Polynomial) (sorted : Ea
         by false (t ∷ f) false o r = with_element-next h e o (λ none. (let no : t ∷ f ≡ [] = sym r ∙ none in cc))
 
     turn_of_job-next : (witness : Option ℕ) → chain_witness s.basis s.queue job ≡ witness → AfterTurn s (turn_of_job A gens mode s job witness)
-    turn_of_job-next (Some k) e = with_entry-next (Skipped job k) refl (skipped_settled A gens mode s job k run e due)
+    turn_of_job-next (Some k) e = with_entry-next (Skipped job k) ((due, witness-number s.basis s.queue job k e), refl) (skipped_settled A gens mode s job k run e due)
     turn_of_job-next None e = turn_of_start-next (start_of A gens s.basis job) refl
 
   step-next : (budget : ℕ) (s : State) → IsRun A gens mode s → AfterTurn s (step A gens mode budget s)

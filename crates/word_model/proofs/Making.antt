@@ -11,6 +11,7 @@ use Rattle.word_model.specs.Conditions.{IsGAlgebra}
 use Rattle.word_model.specs.Reduction.{element, quotient, multiple, is_within, Target, step_by, less_step, Goes, next_step, Reduced, reduce, leading_target}
 use Rattle.word_model.specs.Jobs.{IsJob, start_of}
 use Rattle.word_model.specs.Machine.{IsElement}
+use Rattle.word_model.specs.Inside.Sound.{IsOfMode}
 use Rattle.word_model.specs.declared.records.Job.{Job}
 use Rattle.word_model.specs.declared.records.Job.TheVariants.{Seed, Pair, Right}
 use Rattle.word_model.specs.declared.records.Mode.{Mode}
@@ -30,7 +31,7 @@ use Rattle.word_model.proofs.Monic.{monic, monic-coefficient, monic-is}
 use Rattle.word_model.proofs.ReductionInduction.{leading_reduction, reduction_cases}
 use Rattle.word_model.proofs.TraceValues.{IsStepped, stepped}
 use Rattle.word_model.proofs.Settled.{IsNumber}
-use Rattle.word_model.proofs.Replays.{IsOfMode, IsTreatment, IsReplay}
+use Rattle.word_model.proofs.Replays.{IsTreatment, IsReplay}
 use Rattle.word_model.proofs.Starts.{start_of-pair, start_of-seed, start_of-right}
 
 -- a set of polynomials that is closed under these operations
@@ -109,7 +110,7 @@ module _ (A : Algebra) (ok : IsGAlgebra A) (gens : List Polynomial) (sorted : Ea
   -- all elements
   pub elements_in : (H : List Polynomial) (entries : List Entry) (G : List Polynomial) → IsReplay A gens mode H entries G → Each (IsElement A) H → Each I H → Each I G
   elements_in H [] G replay elements inside = subst (Each I) replay inside
-  elements_in H (Skipped job k ∷ entries) G replay elements inside = elements_in H entries G replay elements inside
+  elements_in H (Skipped job k ∷ entries) G replay elements inside = elements_in H entries G replay.1 elements inside
   elements_in H (Zero job trace ∷ entries) G replay elements inside = elements_in H entries G replay.1 elements inside
   elements_in H (New job trace scale ∷ entries) G replay elements inside =
       let t : IsOf A ok replay.0 × I replay.0 = treated_in H elements inside job trace replay.0 replay.2 in
@@ -131,7 +132,7 @@ all_closed A ok gens mode = record {
 pub elements_monic : (A : Algebra) (ok : IsGAlgebra A) (gens : List Polynomial) (sorted : Each (IsPolynomial A.p A.order) gens) (mode : Mode) (H : List Polynomial) (entries : List Entry) (G : List Polynomial)
     → IsReplay A gens mode H entries G → Each (IsElement A) H → Each (λ f. leading_coefficient f ≡ 1) H → Each (λ f. leading_coefficient f ≡ 1) G
 elements_monic A ok gens sorted mode H [] G replay elements monics = subst (Each (λ f. leading_coefficient f ≡ 1)) replay monics
-elements_monic A ok gens sorted mode H (Skipped job k ∷ entries) G replay elements monics = elements_monic A ok gens sorted mode H entries G replay elements monics
+elements_monic A ok gens sorted mode H (Skipped job k ∷ entries) G replay elements monics = elements_monic A ok gens sorted mode H entries G replay.1 elements monics
 elements_monic A ok gens sorted mode H (Zero job trace ∷ entries) G replay elements monics = elements_monic A ok gens sorted mode H entries G replay.1 elements monics
 elements_monic A ok gens sorted mode H (New job trace scale ∷ entries) G replay elements monics =
     let t : IsOf A ok replay.0 × Unit {0} =

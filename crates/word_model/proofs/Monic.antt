@@ -9,14 +9,11 @@ use Rattle.monomials.specs.Polynomials.{Polynomial, HasVars, IsPolynomial, cons_
 use Rattle.monomials.proofs.Modulo.{Same, same_refl, same_mul, same_mul_right}
 use Rattle.monomials.proofs.Weights.{weigh, weigh_alike_on, weigh-poly_scale}
 use Rattle.monomials.proofs.Keys.{Each-weaker}
-use Rattle.word_model.specs.Words.{Algebra, word_from, sorted_word, monomial_of}
+use Rattle.word_model.specs.Words.{Algebra, word_from, sorted_word}
 use Rattle.word_model.specs.Conditions.{IsGAlgebra}
 use Rattle.word_model.specs.Reduction.{multiple}
 use Rattle.word_model.specs.Machine.{IsElement}
-use Rattle.word_model.proofs.Letters.{monomial_of-sorted_word}
-use Rattle.word_model.proofs.Descents.{leftmost_descent-sorted_word}
-use Rattle.word_model.proofs.Termination.{normal_form-sorted}
-use Rattle.word_model.proofs.NormalForms.{word_weight, row_weight, same_weights}
+use Rattle.word_model.proofs.NormalForms.{word_weight, word_weight-sorted, row_weight, same_weights}
 use Rattle.word_model.proofs.Divisions.{inverse-is}
 use Rattle.word_model.proofs.Multiples.{leading_coefficient-nonzero}
 use Rattle.word_model.proofs.MultipleWeights.{behind, weigh-term}
@@ -38,23 +35,17 @@ plus-one (suc n) [] e = absurd (omega arith)
 plus-one (suc n) (x ∷ m) e = let z : 0 + x ≡ x = omega arith in λ t. z t ∷ plus-one n m (omega arith) t
 
 module _ (A : Algebra) where
-  -- a sorted word weighs what its monomial does
-  pub word_weight-sorted : (φ : Monomial → ℕ) (m : Monomial) → length m ≡ A.order.vars → word_weight A φ (sorted_word m) ≡ φ m
-  word_weight-sorted φ m e =
-      let s : 1 * φ (monomial_of A.order.vars (sorted_word m)) + 0 ≡ φ (monomial_of A.order.vars (sorted_word m)) = omega arith in
-      ap (weigh φ) (normal_form-sorted A (sorted_word m) (leftmost_descent-sorted_word m)) ∙ s ∙ ap φ (monomial_of-sorted_word A.order.vars m e)
-
   -- behind m, 1 weighs what m does
   pub behind-one : (φ : Monomial → ℕ) (m : Monomial) → length m ≡ A.order.vars → behind A m φ (one A.order.vars) ≡ φ m
   behind-one φ m hm =
-      ap (λ w. word_weight A φ (sorted_word m ++ w)) (sorted_word-one 1 A.order.vars) ∙ ap (word_weight A φ) (append-nil (sorted_word m)) ∙ word_weight-sorted φ m hm
+      ap (λ w. word_weight A φ (sorted_word m ++ w)) (sorted_word-one 1 A.order.vars) ∙ ap (word_weight A φ) (append-nil (sorted_word m)) ∙ word_weight-sorted A φ m hm
 
   -- 1 times g weighs what g does
   pub row_weight-one : (φ : Monomial → ℕ) (g : Polynomial) → HasVars A.order.vars g → Same A.p (row_weight A φ g (one A.order.vars)) (weigh φ g)
   row_weight-one φ g vars =
       weigh_alike_on A.p (λ b. word_weight A φ (sorted_word (one A.order.vars) ++ sorted_word b)) φ g
       (Each-weaker _ _ (λ t e.
-      same_refl A.p _ _ (ap (λ w. word_weight A φ (w ++ sorted_word t.1)) (sorted_word-one 1 A.order.vars) ∙ word_weight-sorted φ t.1 e)) g vars)
+      same_refl A.p _ _ (ap (λ w. word_weight A φ (w ++ sorted_word t.1)) (sorted_word-one 1 A.order.vars) ∙ word_weight-sorted A φ t.1 e)) g vars)
 
 -- ---- monic multiples
 

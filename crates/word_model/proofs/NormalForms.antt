@@ -10,8 +10,9 @@ use Rattle.monomials.proofs.OrderLaws.{order_cmp_total, order_cmp_tied}
 use Rattle.monomials.proofs.Operations.{IsPolynomial-sum_over}
 use Rattle.word_model.specs.Words.{Algebra, Word, WordSum, IsWord, sorted_word, Descent, leftmost_descent, rewritten, rewriting_step, normal_form_within, normal_form, enough, word_value, RewritesDown}
 use Rattle.word_model.specs.Products.{product, variable_polynomial, with_letter}
-use Rattle.word_model.proofs.Letters.{length-counts_from, sorted_word-variable}
-use Rattle.word_model.proofs.Termination.{normal_form-descent}
+use Rattle.word_model.proofs.Letters.{length-counts_from, monomial_of-sorted_word, sorted_word-variable}
+use Rattle.word_model.proofs.Descents.{leftmost_descent-sorted_word}
+use Rattle.word_model.proofs.Termination.{normal_form-sorted, normal_form-descent}
 
 -- what holds of each element holds of all of a list
 pub Each-always : {X : Type 0} (P : X → Type 0) → ((x : X) → P x) → (xs : List X) → Each P xs
@@ -104,3 +105,9 @@ product-variable A above_one f v h =
   where
     letter : (φ : Monomial → ℕ) (a : Monomial) → weigh (λ b. word_weight A φ (sorted_word a ++ sorted_word b)) (variable_polynomial A v) ≡ word_weight A φ (sorted_word a ++ v ∷ [])
     letter φ a = omega (arith, ap (λ w. word_weight A φ (sorted_word a ++ w)) (sorted_word-variable A.order.vars v h))
+
+-- the weight of a sorted word is that of its monomial
+pub word_weight-sorted : (A : Algebra) (φ : Monomial → ℕ) (m : Monomial) → length m ≡ A.order.vars → word_weight A φ (sorted_word m) ≡ φ m
+word_weight-sorted A φ m e =
+    ap (weigh φ) (normal_form-sorted A (sorted_word m) (leftmost_descent-sorted_word m))
+    ∙ omega (arith, ap φ (monomial_of-sorted_word A.order.vars m e))

@@ -31,7 +31,7 @@ use Rattle.word_model.proofs.FinishedBases.{told, run_elements}
 use Rattle.word_model.proofs.Kept.{length-kept, kept-is, kept-apart, kept-under, IsUnder}
 use Rattle.word_model.proofs.FinalLists.{polynomials_of, FinalsAscend}
 use Rattle.word_model.proofs.Finals.{IsFinal, final-leading, AreFinals, finished-finals}
-use Rattle.word_model.proofs.Unique.{one_each}
+use Rattle.word_model.proofs.Unique.{one_each, place_of}
 
 -- ---- members of lists
 
@@ -46,14 +46,9 @@ in_list (y ∷ L) x (inl e) = inl (ap (λ (y : Final). y.polynomial) e)
 in_list (y ∷ L) x (inr m) = inr (in_list L x m)
 
 -- the number of a member
-place_of : (F : List Polynomial) (g : Polynomial) → IsOneOf g F → (k : ℕ) × (k < length F) × (slice_index_or F k [] ≡ g)
-place_of [] g m = absurd m
-place_of (x ∷ F) g (inl e) = (0, omega arith, e)
-place_of (x ∷ F) g (inr m) = let i : (k : ℕ) × (k < length F) × (slice_index_or F k [] ≡ g) = place_of F g m in (suc i.0, omega (arith, i.1), i.2)
-
 pub number_of : (F : List Polynomial) (g : Polynomial) → IsOneOf g F → (i : ℕ) × IsNumber F i × (element F i ≡ g)
 number_of F g m =
-    let p : (k : ℕ) × (k < length F) × (slice_index_or F k [] ≡ g) = place_of F g m in
+    let p : (k : ℕ) × (k < length F) × (slice_index_or F k [] ≡ g) = place_of F g [] m in
     let z : suc p.0 - 1 ≡ p.0 = omega arith in
     (suc p.0, (omega arith, omega (arith, p.1)), ap (λ n. slice_index_or F n []) z ∙ p.2)
 

@@ -69,7 +69,7 @@ module _ (A : Algebra) (ok : IsGAlgebra A) (gens : List Polynomial) (sorted : Ea
   -- the start of each entry's job, unless it was skipped
   pub entries_reduced : (H : List Polynomial) (entries : List Entry) → IsReplay A gens mode H entries G → Each (EntryReducesToZero A gens G) entries
   entries_reduced H [] replay = tt
-  entries_reduced H (Skipped job k ∷ entries) replay = (tt, entries_reduced H entries replay)
+  entries_reduced H (Skipped job k ∷ entries) replay = (tt, entries_reduced H entries replay.1)
   entries_reduced H (Zero job trace ∷ entries) replay = (
     zero_reduced H (replay_begins A gens mode H entries G replay.1) job trace replay.0,
     entries_reduced H entries replay.1,

@@ -12,6 +12,7 @@ use Rattle.word_model.specs.Ideals.{IsOneOf}
 use Rattle.word_model.specs.Syzygies.{is_zero_row}
 use Rattle.word_model.proofs.NormalForms.{normal_form_is_polynomial}
 use Rattle.word_model.proofs.Monic.{length-one}
+use Rattle.word_model.proofs.Unique.{place_of}
 use Rattle.word_model.proofs.Sums.{IsSum, sum_zero, sum_same, sum_add, sum_scale, sum_one, sum_all}
 use Rattle.word_model.proofs.MultipleWeights.{Multiple, behind}
 use Rattle.word_model.proofs.Frames.{Frame}
@@ -29,12 +30,6 @@ module _ (A : Algebra) where
   -- a value that is a sum of multiples of the rows
   abbrev pub IsRowSum : List Row → (Tests → ℕ) → Type 0
   IsRowSum Z F = IsSum A.p (row_mul Z) (IsRowMultiple Z) F
-
--- the number of a row in a list
-row_number : (Z : List Row) (row : Row) → IsOneOf row Z → (k : ℕ) × (k < length Z) × (slice_index_or Z k [] ≡ row)
-row_number [] row h = absurd h
-row_number (x ∷ Z) row (inl e) = (0, omega arith, e)
-row_number (x ∷ Z) row (inr h) = let i : (k : ℕ) × (k < length Z) × (slice_index_or Z k [] ≡ row) = row_number Z row h in (suc i.0, omega (arith, i.1), i.2)
 
 -- a zero row is not seen
 pub see-zero_row : (Φ : Tests) (k : ℕ) (row : Row) → is_zero_row row ≡ true → see Φ k row ≡ 0
@@ -65,7 +60,7 @@ module _ (A : Algebra) (ok : IsGAlgebra A) (Z : List Row) (vars : (k : ℕ) → 
 
   pub row_sum_one : (row : Row) → IsOneOf row Z → IsRowSum A Z (λ Φ. see Φ 1 row)
   row_sum_one row h =
-      let i : (k : ℕ) × (k < length Z) × (slice_index_or Z k [] ≡ row) = row_number Z row h in
+      let i : (k : ℕ) × (k < length Z) × (slice_index_or Z k [] ≡ row) = place_of Z row [] h in
       let z : suc i.0 - 1 ≡ i.0 = omega arith in
       subst (λ row. IsRowSum A Z (λ Φ. see Φ 1 row)) (ap (λ n. slice_index_or Z n []) z ∙ i.2) (row_sum_number (suc i.0) (omega arith) (omega (arith, i.1)))
 

@@ -227,7 +227,7 @@ module _ (A : Algebra) (ok : IsGAlgebra A) (gens : List Polynomial) (sorted : Ea
     rows_are H [] R replay same rows =
         let len : length R ≡ length G = same ∙ ap length replay in
         (len, subst (AreRows R) len rows)
-    rows_are H (Skipped job k ∷ entries) R replay same rows = rows_are H entries R replay same rows
+    rows_are H (Skipped job k ∷ entries) R replay same rows = rows_are H entries R replay.1 same rows
     rows_are H (Zero job trace ∷ entries) R replay same rows = rows_are H entries R replay.1 same rows
     rows_are H (New job trace scale ∷ entries) R replay same rows =
         let r : Polynomial = replay.0 in

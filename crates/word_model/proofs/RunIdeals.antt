@@ -1,16 +1,18 @@
 -- Runs and the ideals of their generators, left and two-sided: what a finished basis gives, and its finished list.
-use Rattle.std.proofs.Common.{◌≡◌, ℕ, List, Some, ◌↔◌}
-use Rattle.monomials.specs.Polynomials.{Polynomial, Each, IsPolynomial}
+use Rattle.std.proofs.Common.{◌≡◌, ◌↔◌, ℕ, ◌≤◌, List, [], map, length, Some}
+use Rattle.monomials.specs.Polynomials.{Polynomial, Each, IsPolynomial, poly_degree}
 use Rattle.monomials.specs.WellFounded.{IsWellFounded}
 use Rattle.monomials.proofs.Keys.{Each-weaker}
 use Rattle.word_model.specs.Words.{Algebra}
 use Rattle.word_model.specs.Conditions.{IsGAlgebra}
+use Rattle.word_model.specs.Products.{degree_limit}
+use Rattle.word_model.specs.Cofactors.{row_value, basis_rows}
 use Rattle.word_model.specs.Reduction.{element, normal_form_by}
 use Rattle.word_model.specs.Machine.{Journal, machine}
 use Rattle.word_model.specs.Finished.{FinishedList, finished}
-use Rattle.word_model.specs.Ideals.{InLeftIdeal, IsGroebnerBasis, IsReducedBasis}
+use Rattle.word_model.specs.Ideals.{InLeftIdeal, ReducesToZero, IsGroebnerBasis, IsReducedBasis}
 use Rattle.word_model.specs.TwoSided.{InTwoSidedIdeal}
-use Rattle.word_model.specs.Bases.{InIdeal, Decides, IsFinishedBasis}
+use Rattle.word_model.specs.Bases.{InIdeal, Decides, IsFinishedBasis, RunLaws}
 use Rattle.word_model.specs.declared.records.Mode.{Mode}
 use Rattle.word_model.specs.declared.records.Mode.TheVariants.{Left, TwoSided}
 use Rattle.word_model.specs.declared.records.Outcome.TheVariants.{Finished}
@@ -20,7 +22,9 @@ use Rattle.word_model.proofs.Spans.{span_element}
 use Rattle.word_model.proofs.Combinations.{span_in_ideal}
 use Rattle.word_model.proofs.TwoSidedSums.{two_sided_closed, sum_in_ideal}
 use Rattle.word_model.proofs.Reductions.{IsOf}
-use Rattle.word_model.proofs.FinishedBases.{run_elements}
+use Rattle.word_model.proofs.FinishedBases.{told, run_elements, generator_reduced}
+use Rattle.word_model.proofs.ReducedStarts.{entries_reduced}
+use Rattle.word_model.proofs.FinishedRows.{basis_values}
 use Rattle.word_model.proofs.Memberships.{pairs_below, members_within, basis_is, pairs_to_zero}
 use Rattle.word_model.proofs.Deciding.{Spans, spans_left, reductions_decide, normal_forms_decide}
 use Rattle.word_model.proofs.LeftBases.{left_spans}
@@ -100,6 +104,22 @@ module _ (A : Algebra) (ok : IsGAlgebra A) (gens : List Polynomial) (sorted : Ea
 
     pub reduced_is_one : (H : List Polynomial) → IsReducedBasis A (InIdeal A mode gens) H → F ≡ H
     reduced_is_one H other = unique A ok well (InIdeal A mode gens) (run_ideal mode) F H r other
+
+-- what is proved of every run
+module _ (A : Algebra) (ok : IsGAlgebra A) (well : IsWellFounded A.order) (gens : List Polynomial) (sorted : Each (IsPolynomial A.p A.order) gens) (low : Each (λ f. poly_degree f ≤ degree_limit) gens) where
+  pub run_laws : (mode : Mode) (budget : ℕ) → RunLaws A mode gens (machine A gens mode budget)
+  run_laws mode budget = record {
+    elements = run_elements A ok gens sorted mode budget;
+    starts = entries_reduced A ok gens sorted low mode (machine A gens mode budget).basis (run_elements A ok gens sorted mode budget) [] (machine A gens mode budget).entries
+        (told A ok gens sorted mode budget).replay;
+    values = values mode;
+    generators = λ end. each_number (ReducesToZero A (machine A gens mode budget).basis) gens (λ s n. generator_reduced A ok gens sorted mode budget end low s n);
+    basis = λ end. finished_basis A ok gens sorted mode budget end well;
+  }
+    where
+      values : (m : Mode) → m ≡ Left → map (λ row. row_value A row gens) (basis_rows A (length gens) (machine A gens m budget)) ≡ (machine A gens m budget).basis
+      values Left is = basis_values A ok gens sorted budget
+      values TwoSided is = cc
 
 -- runs over lists that generate the same ideal have the same finished list
 pub same_lists : (A : Algebra) → IsGAlgebra A → IsWellFounded A.order → (gens gens' : List Polynomial) → Each (IsPolynomial A.p A.order) gens → Each (IsPolynomial A.p A.order) gens'

@@ -12,6 +12,7 @@ use Rattle.word_model.specs.Jobs.{start_of, chain_witness, job_sugar, element_su
 use Rattle.word_model.specs.Finished.{finished, kept}
 use Rattle.word_model.specs.Machine.{step, run_within, machine}
 use Rattle.word_model.specs.Cofactors.{basis_rows, cofactor_rows, row_value}
+use Rattle.word_model.specs.Ideals.{StartReducesToZero}
 use Rattle.word_model.specs.declared.records.Job.TheVariants.{Seed, Pair, Right}
 use Rattle.word_model.specs.declared.records.TraceStep.{TraceStep}
 use Rattle.word_model.specs.declared.records.Mode.TheVariants.{Left, TwoSided}
@@ -51,6 +52,24 @@ three_monomials : machine three_commuting (((1, 1 ∷ 1 ∷ 0 ∷ []) ∷ []) �
     }
 unfolding machine run_within step chain_witness start_of reduce steps_within product normal_form normal_form_within inverse
 three_monomials = refl
+
+-- ---- pairs with the last element of the Weyl algebra's run, and the pair that is skipped above: their starts are reduced to zero
+
+abbrev weyl_basis : List Polynomial
+weyl_basis = ((1, 0 ∷ 2 ∷ []) ∷ []) ∷ ((1, 1 ∷ 1 ∷ []) ∷ []) ∷ ((1, 0 ∷ 1 ∷ []) ∷ []) ∷ []
+
+first_with_last : StartReducesToZero (two_variables 7 1 1) weyl_generators weyl_basis (Pair 1 3)
+unfolding start_of reduce steps_within product normal_form normal_form_within inverse
+first_with_last = ([], refl, (refl, refl))
+
+second_with_last : StartReducesToZero (two_variables 7 1 1) weyl_generators weyl_basis (Pair 2 3)
+unfolding start_of reduce steps_within product normal_form normal_form_within inverse
+second_with_last = ([], refl, (refl, refl))
+
+skipped_to_zero : StartReducesToZero three_commuting []
+    (((1, 0 ∷ 1 ∷ 1 ∷ []) ∷ []) ∷ ((1, 1 ∷ 0 ∷ 1 ∷ []) ∷ []) ∷ ((1, 1 ∷ 1 ∷ 0 ∷ []) ∷ []) ∷ []) (Pair 2 3)
+unfolding start_of reduce steps_within product normal_form normal_form_within inverse
+skipped_to_zero = ([], refl, (refl, refl))
 
 -- ---- four monomials in four variables, each without one of them: all lcms are equal, so pairs go by j and then i
 

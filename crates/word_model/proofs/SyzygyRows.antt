@@ -65,7 +65,7 @@ module _ (A : Algebra) (ok : IsGAlgebra A) (gens : List Polynomial) (sorted : Ea
   module _ (G : List Polynomial) (elements : Each (IsElement A) G) (R : List Row) (rows : AreRows A ok gens sorted G elements R (length G)) where
     entries_silent : (H : List Polynomial) (entries : List Entry) → IsReplay A gens Left H entries G → (row : Row) → IsOneOf row (entry_syzygies A (length gens) G R entries) → IsSilent row
     entries_silent H [] replay row h = absurd h
-    entries_silent H (Skipped job k ∷ entries) replay row h = entries_silent H entries replay row h
+    entries_silent H (Skipped job k ∷ entries) replay row h = entries_silent H entries replay.1 row h
     entries_silent H (New job trace scale ∷ entries) replay row h = entries_silent (H ++ monic A ok replay.0 ∷ []) entries replay.4 row h
     entries_silent H (Zero job trace ∷ entries) replay row h = by (is_zero_row (less_steps A R (start_row A (length gens) G R job) trace)) h (entries_silent H entries replay.1 row)
       where

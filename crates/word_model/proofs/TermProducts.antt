@@ -11,10 +11,8 @@ use Rattle.monomials.proofs.Operations.{IsPolynomial-poly_add, IsPolynomial-poly
 use Rattle.word_model.specs.Words.{Algebra, Word, IsWord, sorted_word, RewritesDown}
 use Rattle.word_model.specs.Products.{product, variable_polynomial, times_letters, with_letter}
 use Rattle.word_model.specs.Conditions.{IsConfluent}
-use Rattle.word_model.proofs.Letters.{IsWord-sorted_word, monomial_of-sorted_word, sorted_word-variable, length-word_from}
-use Rattle.word_model.proofs.Descents.{leftmost_descent-sorted_word}
-use Rattle.word_model.proofs.Termination.{normal_form-sorted}
-use Rattle.word_model.proofs.NormalForms.{word_weight, row_weight, weigh-word_value, weigh-product, product_is_polynomial, same_weights, product-variable}
+use Rattle.word_model.proofs.Letters.{IsWord-sorted_word, sorted_word-variable, length-word_from}
+use Rattle.word_model.proofs.NormalForms.{word_weight, word_weight-sorted, row_weight, weigh-word_value, weigh-product, product_is_polynomial, same_weights, product-variable}
 use Rattle.word_model.proofs.Degrees.{poly_degree-product}
 use Rattle.word_model.proofs.Associativity.{length-variable, first_part}
 
@@ -56,12 +54,6 @@ module _ (A : Algebra) (above_one : 1 < A.p) where
   times_letters_is_polynomial f (v ∷ w) h =
       times_letters_is_polynomial (product A f (variable_polynomial A v)) w (product_is_polynomial A above_one f (variable_polynomial A v))
 
-  -- the weight of a sorted word is that of its monomial
-  word_weight-monomial : (φ : Monomial → ℕ) (m : Monomial) → length m ≡ A.order.vars → word_weight A φ (sorted_word m) ≡ φ m
-  word_weight-monomial φ m e =
-      ap (weigh φ) (normal_form-sorted A (sorted_word m) (leftmost_descent-sorted_word m))
-      ∙ omega (arith, ap φ (monomial_of-sorted_word A.order.vars m e))
-
   -- the weight of a product with a variable is that of the words with its letter behind them
   weigh-variable : (φ : Monomial → ℕ) (f : Polynomial) (v : ℕ) → 1 ≤ v
       → Same A.p (weigh φ (product A f (variable_polynomial A v))) (weigh (λ a. word_weight A φ (sorted_word a ++ v ∷ [])) f)
@@ -76,7 +68,7 @@ module _ (A : Algebra) (above_one : 1 < A.p) where
         → Same A.p (weigh φ (times_letters A f w)) (weigh (λ a. word_weight A φ (sorted_word a ++ w)) f)
     weigh-times_letters φ [] f vars word =
         weigh_alike_on A.p φ (λ a. word_weight A φ (sorted_word a ++ [])) f
-        (Each-weaker _ _ (λ t len. same_refl A.p _ _ (sym (ap (word_weight A φ) (append-nil (sorted_word t.1)) ∙ word_weight-monomial φ t.1 len))) f vars)
+        (Each-weaker _ _ (λ t len. same_refl A.p _ _ (sym (ap (word_weight A φ) (append-nil (sorted_word t.1)) ∙ word_weight-sorted A φ t.1 len))) f vars)
     weigh-times_letters φ (v ∷ w) f vars word =
         weigh-times_letters φ w (product A f (variable_polynomial A v)) (product_is_polynomial A above_one f (variable_polynomial A v)).vars word.1
         ∙ weigh-variable (λ a. word_weight A φ (sorted_word a ++ w)) f v word.0.0

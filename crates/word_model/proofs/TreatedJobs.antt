@@ -167,7 +167,7 @@ module _ (A : Algebra) (ok : IsGAlgebra A) (gens : List Polynomial) (sorted : Ea
       -- the start of a treated job is a sum of multiples of the basis
       pub treated_sum : (H : List Polynomial) (entries : List Entry) → IsReplay A gens mode H entries G → Treats entries job → IsStartSum job
       treated_sum H [] replay t = absurd t
-      treated_sum H (Skipped other k ∷ entries) replay t = treated_sum H entries replay t
+      treated_sum H (Skipped other k ∷ entries) replay t = treated_sum H entries replay.1 t
       treated_sum H (Zero other trace ∷ entries) replay (inr t) = treated_sum H entries replay.1 t
       treated_sum H (Zero other trace ∷ entries) replay (inl is) =
           zero_sum H (replay_begins A gens mode H entries G replay.1) trace (subst (λ job. IsTreatment A gens mode H job trace []) is replay.0)

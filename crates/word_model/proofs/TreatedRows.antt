@@ -97,7 +97,7 @@ module _ (A : Algebra) (ok : IsGAlgebra A) (gens : List Polynomial) (sorted : Ea
   pub treated_row : (H : List Polynomial) (entries : List Entry) (R0 : List Row) → IsReplay A gens Left H entries G → rows_after A (length gens) G R0 entries ≡ R → length R0 ≡ length H
       → ((x : Row) → IsOneOf x (entry_syzygies A (length gens) G R entries) → IsOneOf x Z) → (job : Job) → Treats entries job → IsTreatedRow job
   treated_row H [] R0 replay is same in_Z job t = absurd t
-  treated_row H (Skipped other k ∷ entries) R0 replay is same in_Z job t = treated_row H entries R0 replay is same in_Z job t
+  treated_row H (Skipped other k ∷ entries) R0 replay is same in_Z job t = treated_row H entries R0 replay.1 is same in_Z job t
   treated_row H (Zero other trace ∷ entries) R0 replay is same in_Z job (inr t) =
       treated_row H entries R0 replay.1 is same (λ x m. in_Z x (more (is_zero_row (left other trace)) x m)) job t
     where

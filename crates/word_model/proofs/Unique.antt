@@ -1,5 +1,5 @@
 -- Two reduced bases of the same set of polynomials are equal.
-use Rattle.std.proofs.Common.{◌≡◌, ◌≢◌, ℕ, ◌-◌, ◌⊎◌, inl, inr, ⊎_elim, Less, Equal, Greater, true, List, [], ◌∷◌, length, refl, sym, ap, ◌∙◌, subst, arith}
+use Rattle.std.proofs.Common.{◌≡◌, ◌≢◌, ℕ, suc, ◌-◌, ◌<◌, ◌⊎◌, inl, inr, ⊎_elim, Less, Equal, Greater, true, List, [], ◌∷◌, length, slice_index_or, refl, sym, ap, ◌∙◌, subst, arith}
 use Rattle.monomials.specs.Monomials.{Monomial, divides}
 use Rattle.monomials.specs.Leading.{leading_monomial, leading_coefficient}
 use Rattle.monomials.specs.Polynomials.{Polynomial, Each, IsPolynomial}
@@ -33,6 +33,12 @@ each_one P x (y ∷ ys) h (inr m) = each_one P x ys h.1 m
 pub one_each : {X : Type 0} (P : X → Type 0) (xs : List X) → ((x : X) → IsOneOf x xs → P x) → Each P xs
 one_each P [] h = tt
 one_each P (y ∷ ys) h = (h y (inl refl), one_each P ys (λ x m. h x (inr m)))
+
+-- the place of one of a list
+pub place_of : {X : Type 0} (xs : List X) (x d : X) → IsOneOf x xs → (k : ℕ) × (k < length xs) × (slice_index_or xs k d ≡ x)
+place_of [] x d m = absurd m
+place_of (y ∷ xs) x d (inl e) = (0, omega arith, e)
+place_of (y ∷ xs) x d (inr m) = let i : (k : ℕ) × (k < length xs) × (slice_index_or xs k d ≡ x) = place_of xs x d m in (suc i.0, omega (arith, i.1), i.2)
 
 module _ (A : Algebra) where
   -- rising lists with the same members are equal

@@ -1,14 +1,17 @@
 -- What the basis of a finished run is to the ideal of its generators.
-use Rattle.std.specs.Prelude.{◌≡◌, ◌≢◌, ℕ, ◌≤◌, ◌↔◌, false, List, [], length}
+use Rattle.std.specs.Prelude.{◌≡◌, ◌≢◌, ℕ, ◌≤◌, ◌↔◌, false, List, [], map, length}
 use Rattle.monomials.specs.Leading.{leading_monomial}
-use Rattle.monomials.specs.Polynomials.{Polynomial, IsPolynomial}
+use Rattle.monomials.specs.Polynomials.{Polynomial, Each, IsPolynomial}
 use Rattle.word_model.specs.Words.{Algebra}
 use Rattle.word_model.specs.Reduction.{element, Reduced, reduce, normal_form_by}
 use Rattle.word_model.specs.Jobs.{pair_lcm, s_polynomial}
-use Rattle.word_model.specs.Ideals.{InLeftIdeal, IsCombinationBelow, IsCombinationWithin, IsGroebnerBasis}
+use Rattle.word_model.specs.Machine.{Journal, IsElement}
+use Rattle.word_model.specs.Cofactors.{row_value, basis_rows}
+use Rattle.word_model.specs.Ideals.{InLeftIdeal, IsCombinationBelow, IsCombinationWithin, ReducesToZero, EntryReducesToZero, IsGroebnerBasis}
 use Rattle.word_model.specs.TwoSided.{InTwoSidedIdeal}
 use Rattle.word_model.specs.declared.records.Mode.{Mode}
 use Rattle.word_model.specs.declared.records.Mode.TheVariants.{Left, TwoSided}
+use Rattle.word_model.specs.declared.records.Outcome.TheVariants.{Finished}
 
 -- the ideal that a run's generators generate: closed under products from the left, in two-sided runs from both sides
 abbrev pub InIdeal : Algebra → Mode → List Polynomial → Polynomial → Type 0
@@ -36,3 +39,13 @@ pub record IsFinishedBasis (A : Algebra) (mode : Mode) (gens : List Polynomial) 
   pub pairs : (i j : ℕ) → 1 ≤ i → i ≤ length G → 1 ≤ j → j ≤ length G → PairVanishes A G i j
   pub reductions : Decides A (InIdeal A mode gens) (reduce A G)
   pub normal_forms : Decides A (InIdeal A mode gens) (normal_form_by A G)
+
+-- What is proved of a run J over these generators, however it ended: its elements are nonzero polynomials, and the start of
+-- each job that was not skipped is reduced to zero by its basis. In a left run each element is the value of its row of
+-- cofactors. Of a finished run each generator is reduced to zero, and the basis is as `IsFinishedBasis` says.
+pub record RunLaws (A : Algebra) (mode : Mode) (gens : List Polynomial) (J : Journal) : Type 0 where
+  pub elements : Each (IsElement A) J.basis
+  pub starts : Each (EntryReducesToZero A gens J.basis) J.entries
+  pub values : mode ≡ Left → map (λ row. row_value A row gens) (basis_rows A (length gens) J) ≡ J.basis
+  pub generators : J.outcome ≡ Finished → Each (ReducesToZero A J.basis) gens
+  pub basis : J.outcome ≡ Finished → IsFinishedBasis A mode gens J.basis

@@ -1,7 +1,7 @@
 -- Reduction of a polynomial by a list of polynomials, with its trace.
-use Rattle.std.specs.Prelude.{ℕ, zero, suc, ◌+◌, ◌*◌, ◌-◌, ◌^◌, ◌%◌, max, nat_le, Bool, true, false, List, [], ◌∷◌, length, drop, slice_index_or, Option, Some, None, if◌then◌else◌}
+use Rattle.std.specs.Prelude.{ℕ, zero, suc, ◌+◌, ◌-◌, ◌^◌, max, nat_le, Bool, true, false, List, [], ◌∷◌, length, drop, slice_index_or, Option, Some, None, if◌then◌else◌}
 pub use Rattle.prime_field.specs.Modular.{quotient}
-use Rattle.monomials.specs.Monomials.{Monomial, degree, minus, divides}
+use Rattle.monomials.specs.Monomials.{Monomial, degree, minus}
 use Rattle.monomials.specs.Orders.{order_cmp}
 use Rattle.monomials.specs.Polynomials.{Polynomial, poly_sub, poly_degree}
 pub use Rattle.monomials.specs.Leading.{lead_divides}

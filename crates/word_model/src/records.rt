@@ -65,7 +65,8 @@ pub enum Entry {
 /// How a run ended.
 #[derive(Clone, Copy, Debug, PartialEq, Eq)]
 pub enum Outcome {
-    /// No job was left: the basis is a Gröbner basis.
+    /// No job was left: the basis is a Gröbner basis of the ideal of the generators, by the law
+    /// `finished_bases`.
     Finished,
     /// There were as many entries as the budget allows.
     BudgetSpent,

@@ -4,6 +4,8 @@ mod Swaps
 mod MultipliedOut
 mod Stages
 mod Sums
+mod Passing
+mod Parted
 pub mod TwoPowers
 pub mod PlainValue
 pub mod ClosedTerms

@@ -1,10 +1,10 @@
 -- Sums of many polynomials, and products with one term more on the left.
-use Rattle.std.proofs.Common.{◌≡◌, ℕ, zero, suc, false, ◌+◌, ◌<◌, ◌≤◌, List, [], ◌∷◌, ◌++◌, length, take, get_or, refl, sym, ap, ◌∙◌, arith}
+use Rattle.std.proofs.Common.{◌≡◌, ℕ, zero, suc, false, ◌+◌, ◌<◌, ◌≤◌, List, [], ◌∷◌, ◌++◌, length, take, get_or, refl, sym, ap, ◌∙◌, subst, arith}
 use Rattle.std.proofs.lemmas.Bool.Decides.{nat_tests}
 use Rattle.std.proofs.lemmas.List.{map-append, take_more}
 use Rattle.monomials.specs.Monomials.{Monomial, degree}
 use Rattle.monomials.specs.Orders.{RowOrder, order_cmp}
-use Rattle.monomials.specs.Polynomials.{Polynomial, IsPolynomial, poly_add, poly_degree}
+use Rattle.monomials.specs.Polynomials.{Polynomial, HasNumbers, HasVars, IsPolynomial, poly_add, poly_degree}
 use Rattle.monomials.proofs.Modulo.{Same, same_refl, same_add}
 use Rattle.monomials.proofs.Weights.{weigh, weigh-append, weigh-poly_add}
 use Rattle.monomials.proofs.Canonical.{same_poly}
@@ -13,6 +13,7 @@ use Rattle.monomials.proofs.Operations.{IsPolynomial-poly_add}
 use Rattle.monomials.proofs.Keys.{Each-append}
 use Rattle.gpoly.specs.declared.Term.{Term}
 use Rattle.gpoly.specs.Terms.{pair_of, pairs_of}
+use Rattle.gpoly.proofs.TermLists.{numbers_at, vars_at}
 use Rattle.word_model.specs.Words.{Algebra}
 use Rattle.word_model.specs.Products.{product, in_reach}
 use Rattle.word_model.proofs.NormalForms.{row_weight, weigh-product, product_is_polynomial, same_weights}
@@ -81,6 +82,11 @@ module _ (p : ℕ) (pos : 0 < p) (order : RowOrder) where
       equal _ _ (IsPolynomial-poly_add p order pos f [] h (record { canonical = tt; vars = tt })) h
       (λ φ. weigh-poly_add (order_cmp order.rows) (order_cmp_tied order.rows) p φ f [] ∙ same_refl p _ _ (omega arith))
 
+-- the terms up to an index, and the one that stands there
+pub pairs_more : (ts : List Term) (i : ℕ) (t : Term) → i < length ts → t ≡ get_or ts i t → pairs_of (take (i + 1) ts) ≡ pairs_of (take i ts) ++ pair_of t ∷ []
+pairs_more ts i t inside is =
+    ap pairs_of (take_more ts i t inside ∙ ap (λ u. take i ts ++ u ∷ []) (sym is)) ∙ map-append pair_of (take i ts) (t ∷ [])
+
 -- the product with a term more on the left
 pub product_more : (A : Algebra) → 1 < A.p → (parts : List Polynomial) (part g : Polynomial) (ts : List Term) (i : ℕ) (t : Term) → i < length ts → t ≡ get_or ts i t
     → AreSorted A.p A.order parts → IsPolynomial A.p A.order part
@@ -88,8 +94,7 @@ pub product_more : (A : Algebra) → 1 < A.p → (parts : List Polynomial) (part
     → sum_of A.p A.order (parts ++ part ∷ []) ≡ product A (pairs_of (take (i + 1) ts)) g
 product_more A above_one parts part g ts i t inside is hs hp sum this =
     let pos : 0 < A.p = omega arith in
-    let one_more : pairs_of (take (i + 1) ts) ≡ pairs_of (take i ts) ++ pair_of t ∷ [] =
-    ap pairs_of (take_more ts i t inside ∙ ap (λ u. take i ts ++ u ∷ []) (sym is)) ∙ map-append pair_of (take i ts) (t ∷ []) in
+    let one_more : pairs_of (take (i + 1) ts) ≡ pairs_of (take i ts) ++ pair_of t ∷ [] = pairs_more ts i t inside is in
     let all : AreSorted A.p A.order (parts ++ part ∷ []) = Each-append _ parts (part ∷ []) hs (hp, tt) in
     same_weights A _ _ (IsPolynomial-sum_of A.p pos A.order (parts ++ part ∷ []) all) (product_is_polynomial A above_one (pairs_of (take (i + 1) ts)) g)
     (λ φ.
@@ -118,6 +123,15 @@ pub degree_at : (ts : List Term) (i : ℕ) (d : Term) → i < length ts → degr
 degree_at [] i d l = absurd (omega arith)
 degree_at (t ∷ ts) zero d l = omega arith
 degree_at (t ∷ ts) (suc i) d l = omega (arith, degree_at ts i d (omega arith))
+
+-- what is known of a term at an index
+pub term_at : (p n : ℕ) (ts : List Term) (i : ℕ) (t : Term) → i < length ts → t ≡ get_or ts i t → HasNumbers p (pairs_of ts) → HasVars n (pairs_of ts)
+    → (t.coef < p) × (length t.mono ≡ n) × (degree t.mono ≤ poly_degree (pairs_of ts))
+term_at p n ts i t inside is numbers vars = (
+  subst (λ t. t.coef < p) (sym is) (numbers_at p ts i t inside numbers),
+  subst (λ t. length t.mono ≡ n) (sym is) (vars_at n ts i t inside vars),
+  omega (arith, ap (λ t. degree t.mono) is, degree_at ts i t inside),
+)
 
 -- small degrees that add up to more than the limit are those of nonzero polynomials out of reach
 pub out_of_reach : (f g : Polynomial) → poly_degree f ≤ 4095 → poly_degree g ≤ 4095 → 4095 < poly_degree f + poly_degree g → in_reach f g ≡ false

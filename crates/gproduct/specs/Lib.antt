@@ -4,3 +4,4 @@ pub mod Seats
 pub mod Counting
 pub mod Factors
 pub mod Parts
+pub mod Passing

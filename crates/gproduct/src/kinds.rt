@@ -9,7 +9,7 @@ use closed_forms::{PairKind, kind_of};
 use std::alloc::{AllocError, Global};
 
 // The most variables that an algebra has.
-const MOST_VARIABLES: u8 = 16;
+pub(crate) const MOST_VARIABLES: u8 = 16;
 
 /// The kind of the relation of x_i and x_j, where it has one. Takes no memory.
 pub(crate) fn kind_at(alg: &Algebra, i: u8, j: u8) -> Option<PairKind>

@@ -5,12 +5,14 @@
 mod front;
 mod kinds;
 mod multiplying;
+mod pairs;
 mod parts;
 mod pending;
 mod place;
 mod powers;
 mod products;
 mod seat;
+mod split;
 mod steps;
 mod swap;
 mod table;

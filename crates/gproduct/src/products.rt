@@ -14,6 +14,7 @@ use crate::multiplying::multiply_out;
 use crate::parts::{add_part, total};
 use crate::pending::Pending;
 use crate::seat::TableSeat;
+use crate::split::{SplitProduct, split};
 use crate::steps::Steps;
 use algebra::ProductFault;
 use gpoly::{GPoly, Term};
@@ -52,6 +53,33 @@ fn push_behind(pending: &mut Pending, terms: &[Term], mono: &Expo) -> Result<(),
     Ok(())
 }
 
+// The product of a power of a variable with `f`, by multiplying out.
+fn crossed_times(
+    alloc: Global,
+    seat: &mut TableSeat,
+    pending: &mut Pending,
+    v: u8,
+    exponent: u16,
+    f: &GPoly,
+) -> Result<GPoly, AllocError>
+    requires counted { factor_count pending.old.open.items ≡ length pending.old.factors.items }
+    requires empty { pending.old.open.items ≡ [] }
+    requires first { 1 ≤ v }
+    requires last { v ≤ seat.old.algebra.order.vars }
+    requires sorted { IsPolynomial seat.old.algebra.p seat.old.algebra.order f.now }
+    requires within { exponent + poly_degree f.now ≤ 4095 }
+    ensures counted { IfOk result (λ r. factor_count pending.new.open.items ≡ length pending.new.factors.items) }
+    ensures empty { IfOk result (λ r. pending.new.open.items ≡ []) }
+    ensures value { IfOk result (λ r. r ≡ product seat.old.algebra ((1, power seat.old.algebra.order.vars v exponent) ∷ []) f.now) }
+    ensures sorted { IfOk result (λ r. IsPolynomial seat.old.algebra.p seat.old.algebra.order r) }
+    ensures algebra { seat.new.algebra ≡ seat.old.algebra }
+    ensures kept { Keeps seat.old seat.new }
+{
+    let n = seat.algebra().n();
+    push_before(pending, &power(n, v, exponent), f.terms())?;
+    multiply_out(alloc, seat, pending)
+}
+
 // The product of a power of a variable with `f`.
 fn power_times(
     alloc: Global,
@@ -74,16 +102,22 @@ fn power_times(
     ensures algebra { seat.new.algebra ≡ seat.old.algebra }
     ensures kept { Keeps seat.old seat.new }
 {
-    let n = seat.algebra().n();
+    let algebra = seat.algebra();
+    let n = algebra.n();
     if exponent == 0 {
         return Ok(f);
     }
-    push_before(pending, &power(n, v, exponent), f.terms())?;
-    multiply_out(alloc, seat, pending)
+    let power = power(n, v, exponent);
+    let SplitProduct { passed, rest } = split(alloc, seat, 1, &power, &f)?;
+    if rest.is_zero() {
+        return Ok(passed);
+    }
+    let crossed = crossed_times(alloc, seat, pending, v, exponent, &rest)?;
+    passed.add(alloc, algebra.field(), algebra.order(), &crossed)
 }
 
 // The product of a term with `f`: by the powers of its variables, from the last to the first.
-fn term_times_within(
+fn staged_times(
     alloc: Global,
     seat: &mut TableSeat,
     pending: &mut Pending,
@@ -112,6 +146,38 @@ fn term_times_within(
         v -= 1;
     }
     Ok(product)
+}
+
+// The product of a term with `f`: at once with the terms that it passes, and by stages with the others.
+fn term_times_within(
+    alloc: Global,
+    seat: &mut TableSeat,
+    pending: &mut Pending,
+    coef: u32,
+    mono: &Expo,
+    f: &GPoly,
+) -> Result<GPoly, AllocError>
+    requires counted { factor_count pending.old.open.items ≡ length pending.old.factors.items }
+    requires empty { pending.old.open.items ≡ [] }
+    requires sorted { IsPolynomial seat.old.algebra.p seat.old.algebra.order f.now }
+    requires in_range { coef < seat.old.algebra.p }
+    requires vars { length mono.now ≡ seat.old.algebra.order.vars }
+    requires within { degree mono.now + poly_degree f.now ≤ 4095 }
+    ensures counted { IfOk result (λ r. factor_count pending.new.open.items ≡ length pending.new.factors.items) }
+    ensures empty { IfOk result (λ r. pending.new.open.items ≡ []) }
+    ensures value { IfOk result (λ r. r ≡ product seat.old.algebra ((coef, mono.now) ∷ []) f.now) }
+    ensures sorted { IfOk result (λ r. IsPolynomial seat.old.algebra.p seat.old.algebra.order r) }
+    ensures algebra { seat.new.algebra ≡ seat.old.algebra }
+    ensures kept { Keeps seat.old seat.new }
+{
+    let algebra = seat.algebra();
+    let _n = algebra.n();
+    let SplitProduct { passed, rest } = split(alloc, seat, coef, mono, f)?;
+    if rest.is_zero() {
+        return Ok(passed);
+    }
+    let crossed = staged_times(alloc, seat, pending, coef, mono, &rest)?;
+    passed.add(alloc, algebra.field(), algebra.order(), &crossed)
 }
 
 // The products of the terms of `f` with `g`, summed. Each counts a step.

@@ -2,6 +2,7 @@
 
 ghost use Rattle.std.specs.Prelude.{◌≡◌, ◌<◌, ◌≤◌, ℕ, IsTrue, Some, None, Ok, IfOk, IfSome, MatchOption, length, slice_index_or, slice_set};
 ghost use Rattle.closed_forms.specs.Kinds.{HasKind};
+ghost use Rattle.gproduct.specs.Passing.{Passes};
 ghost use Rattle.gproduct.specs.Places.{IsPlace, place_value};
 ghost use Rattle.gproduct.specs.Seats.{Knows, Keeps, Teaches};
 ghost use Rattle.gproduct.specs.declared.place.Place.{Place};
@@ -12,6 +13,7 @@ use crate::table::{Filled, Table};
 use algebra::Algebra;
 use closed_forms::PairKind;
 use gpoly::GPoly;
+use monomials::Expo;
 use std::alloc::{AllocError, Global};
 use std::marker::Model;
 
@@ -126,6 +128,15 @@ impl<'t, 'r> TableSeat<'t, 'r> {
         ensures { IfSome result (λ kind. HasKind self.now.algebra i j kind) }
     {
         self.table.kind(i, j)
+    }
+
+    // Whether each variable of `left` commutes with each lower variable of `right`. Takes no memory.
+    pub(crate) fn passes(&self, left: &Expo, right: &Expo) -> bool
+        requires left { length left.now ≡ self.now.algebra.order.vars }
+        requires right { length right.now ≡ self.now.algebra.order.vars }
+        ensures { IsTrue result → Passes self.now.algebra left.now right.now }
+    {
+        self.table.passes(left, right)
     }
 
     // Notes what a cell holds in its place's slot, where that is free.

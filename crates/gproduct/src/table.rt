@@ -1,14 +1,17 @@
 //! The table: one set-once cell for each place.
 
-ghost use Rattle.std.specs.Prelude.{◌≡◌, ◌<◌, ◌≤◌, ◌↔◌, IsTrue, IfOk, IfSome};
+ghost use Rattle.std.specs.Prelude.{◌≡◌, ◌<◌, ◌≤◌, ◌↔◌, IsTrue, IfOk, IfSome, length};
 ghost use Rattle.closed_forms.specs.Kinds.{HasKind};
+ghost use Rattle.gproduct.specs.Passing.{Passes};
 ghost use Rattle.gproduct.specs.Places.{IsPlace, place_value};
 
 use crate::kinds::{kept_kind, kinds_of};
+use crate::pairs::{Pair, noncommuting, none_meets};
 use crate::place::{Place, same_place};
 use algebra::Algebra;
 use closed_forms::PairKind;
 use gpoly::GPoly;
+use monomials::Expo;
 use once_cell::race::OnceBox;
 use std::alloc::{AllocError, Global};
 use std::marker::Model;
@@ -28,18 +31,20 @@ pub(crate) struct Filled<'r> {
 pub struct Table<'r> {
     algebra: &'r Algebra,
     kinds: Vec<Option<PairKind>>,
+    noncommuting: Vec<Pair>,
     cells: Vec<OnceBox<Filled<'r>>>,
 }
 
 impl<'r> Model for Table<'r> {
     ghost use Rattle.word_model.specs.Words.{Algebra as GAlgebra};
+    ghost use Rattle.gproduct.specs.Passing.{HasNoncommuting};
     ghost use Rattle.gproduct.specs.Swaps.{AreKinds};
 
     ghost Value = { GAlgebra };
 
     ghost view = { λ t. t.algebra.now };
 
-    ghost invariant = { λ t. AreKinds t.algebra.now t.kinds.items };
+    ghost invariant = { λ t. AreKinds t.algebra.now t.kinds.items × HasNoncommuting t.algebra.now t.noncommuting.items };
 }
 
 impl<'r> Table<'r> {
@@ -48,10 +53,12 @@ impl<'r> Table<'r> {
         ensures { IfOk result (λ t. t ≡ alg.now) }
     {
         let kinds = kinds_of(alloc, alg)?;
+        let noncommuting = noncommuting(alloc, alg)?;
         let cells = empty_cells(alloc, alg.n())?;
         Ok(Table {
             algebra: alg,
             kinds,
+            noncommuting,
             cells,
         })
     }
@@ -77,6 +84,15 @@ impl<'r> Table<'r> {
     {
         let _n = self.algebra.n();
         kept_kind(&self.kinds, i, j)
+    }
+
+    // Whether each variable of `left` commutes with each lower variable of `right`.
+    pub(crate) fn passes(&self, left: &Expo, right: &Expo) -> bool
+        requires left { length left.now ≡ self.now.order.vars }
+        requires right { length right.now ≡ self.now.order.vars }
+        ensures { IsTrue result → Passes self.now left.now right.now }
+    {
+        none_meets(&self.noncommuting, left, right)
     }
 
     // The value of a place, computed anew.

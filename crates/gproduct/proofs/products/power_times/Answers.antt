@@ -1,53 +1,44 @@
-use Rattle.std.proofs.Common.{◌≡◌, ℕ, ◌<◌, ◌∙◌, ◌++◌, ◌∷◌, [], length, sym, ap, subst, arith}
-use Rattle.std.proofs.Math.ListN.{length-replicate}
+use Rattle.std.proofs.Common.{◌≡◌, ℕ, ◌<◌, ◌∙◌, ◌∷◌, [], refl, sym, ap, subst}
 use Rattle.std.proofs.lemmas.Result.{IfOk-weaker}
-use Rattle.monomials.specs.Monomials.{degree}
-use Rattle.monomials.specs.Orders.{order_cmp}
-use Rattle.monomials.proofs.Operations.{HasNumbers-canonical}
-use Rattle.word_model.specs.Words.{Algebra, word_value}
+use Rattle.word_model.specs.Words.{Algebra}
+use Rattle.word_model.specs.Conditions.{IsGAlgebra}
 use Rattle.word_model.specs.Products.{product}
-use Rattle.word_model.proofs.Letters.{length-word_from}
-use Rattle.gproduct.specs.Factors.{power, products_in, words_of, IsReady}
-use Rattle.gproduct.proofs.SortedWords.{length-power, sorted_word-power}
-use Rattle.gproduct.proofs.Stages.{before_each, before_value, before_ready, no_power}
+use Rattle.gproduct.specs.Factors.{power}
+use Rattle.gproduct.specs.Passing.{IsSplit}
+use Rattle.gproduct.proofs.Parted.{joined_by, none_left}
+use Rattle.gproduct.proofs.Stages.{no_power}
 use Rattle.gproduct.proofs.products.power_times.Goals as goal
-use Rattle.gproduct.proofs.products.power_times.Goals.{After-n-n, In_ok-push_before}
-
-above_one : (c : After-n-n) → 1 < c.args.seat.now.algebra.p
-above_one c = subst (λ (A : Algebra). 1 < A.p) c.algebra.ensures c.n-n.ensures.prime.above_one
 
 pub returns-then-exponent-eq0-clause-value : goal.returns-then-exponent-eq0-clause-value
 returns-then-exponent-eq0-clause-value c =
     let A = c.args.seat.now.algebra in
-    no_power A (above_one (goal.at.returns-then-exponent-eq0-clause-value c).After-n-n) c.args.v c.args.f c.requires.first c.requires.sorted
+    let above_one : 1 < A.p = subst (λ (A : Algebra). 1 < A.p) c.algebra-algebra.ensures c.n-n.ensures.prime.above_one in
+    no_power A above_one c.args.v c.args.f c.requires.first c.requires.sorted
     ∙ ap (λ e. product A ((1, power A.order.vars c.args.v e) ∷ []) c.args.f) (sym c.if-exponent-eq0.true)
 
--- the products that are to be multiplied out
-pushed : (c : In_ok-push_before)
-    → products_in c.push_before.new.pending.open.items c.push_before.new.pending.factors.items
-    ≡ before_each (power c.args.seat.now.algebra.order.vars c.args.v c.args.exponent) c.args.f
-pushed c =
-    let n : c.n-n.result ≡ c.args.seat.now.algebra.order.vars = c.n-n.ensures.value ∙ ap (λ (A : Algebra). A.order.vars) c.algebra.ensures in
-    c.in_ok-push_before.ensures.products
-    ∙ (λ i. products_in (c.requires.empty i) c.args.pending.now.factors.items
-    ++ before_each ((c.power.ensures ∙ ap (λ n. power n c.args.v c.args.exponent) n) i) (c.terms.ensures.value i))
-
-pub multiply_out-requires-clause-ready : goal.multiply_out-requires-clause-ready
-multiply_out-requires-clause-ready c =
+pub returns-then-is_zero-clause-value : goal.returns-then-is_zero-clause-value
+returns-then-is_zero-clause-value c =
     let A = c.args.seat.now.algebra in
     let m = power A.order.vars c.args.v c.args.exponent in
-    let size : degree m ≡ c.args.exponent =
-    sym (length-word_from 1 m) ∙ ap length (sorted_word-power A.order.vars c.args.v c.args.exponent c.requires.first) ∙ length-replicate {A = ℕ} c.args.exponent c.args.v in
-    subst (IsReady A.p A.order.vars) (sym (pushed (goal.at.multiply_out-requires-clause-ready c).In_ok-push_before))
-    (before_ready A.p A.order.vars m (length-power A.order.vars c.args.v c.args.exponent c.requires.first c.requires.last) c.args.f
-    (HasNumbers-canonical (order_cmp A.order.rows) A.p c.args.f c.requires.sorted.canonical) c.requires.sorted.vars (omega (arith, size, c.requires.within)))
+    let n : c.n-n.result ≡ A.order.vars = c.n-n.ensures.value ∙ ap (λ (A : Algebra). A.order.vars) c.algebra-algebra.ensures in
+    let is : c.power-power.result ≡ m = c.power-power.ensures ∙ ap (λ n. power n c.args.v c.args.exponent) n in
+    none_left A (subst IsGAlgebra c.algebra-algebra.ensures c.n-n.ensures.accepted) 1 m c.args.f
+    c.in_ok-passed.field-0.passed c.in_ok-passed.field-0.rest
+    (subst (λ m. IsSplit A 1 m c.args.f c.in_ok-passed.field-0.passed c.in_ok-passed.field-0.rest) is c.in_ok-passed.ensures) (c.if-is_zero.ensures.0 refl)
 
 pub returns-clause-value : goal.returns-clause-value
 returns-clause-value c =
     let A = c.args.seat.now.algebra in
-    IfOk-weaker c.multiply_out.result _ _
-    (λ r is.
-    is
-    ∙ ap (λ f. word_value A (words_of f)) (pushed (goal.at.returns-clause-value c).In_ok-push_before)
-    ∙ before_value A (subst (λ (A : Algebra). 1 < A.p) c.algebra.ensures c.n-n.ensures.prime.above_one) (power A.order.vars c.args.v c.args.exponent) c.args.f)
-    c.multiply_out.ensures.value
+    let m = power A.order.vars c.args.v c.args.exponent in
+    let n : c.n-n.result ≡ A.order.vars = c.n-n.ensures.value ∙ ap (λ (A : Algebra). A.order.vars) c.algebra-algebra.ensures in
+    let is : c.power-power.result ≡ m = c.power-power.ensures ∙ ap (λ n. power n c.args.v c.args.exponent) n in
+    IfOk-weaker c.add.result _ _
+    (λ r sum.
+    sum
+    ∙ joined_by A (subst IsGAlgebra c.algebra-algebra.ensures c.n-n.ensures.accepted) 1 m c.args.f
+    c.in_ok-passed.field-0.passed c.in_ok-passed.field-0.rest
+    (subst (λ m. IsSplit A 1 m c.args.f c.in_ok-passed.field-0.passed c.in_ok-passed.field-0.rest) is c.in_ok-passed.ensures)
+    c.field.result c.order.result.now c.in_ok-crossed.crossed
+    (c.field.ensures ∙ ap (λ (A : Algebra). A.p) c.algebra-algebra.ensures) (c.order.ensures ∙ ap (λ (A : Algebra). A.order) c.algebra-algebra.ensures)
+    c.in_ok-crossed.ensures.value)
+    c.add.ensures.value

@@ -7,4 +7,4 @@ use Rattle.gproduct.proofs.table.Table.kind.Goals as goal
 pub returns : goal.returns
 returns c =
     subst (λ (A : Algebra). IfSome c.kept_kind.result (λ kind. HasKind A c.args.i c.args.j kind)) c.self.view_is
-    (c.kept_kind.ensures c.self.inside.algebra.now (subst (AreKinds c.self.inside.algebra.now) (sym c.deref.ensures.value) c.self.invariant))
+    (c.kept_kind.ensures c.self.inside.algebra.now (subst (AreKinds c.self.inside.algebra.now) (sym c.deref.ensures.value) c.self.invariant.0))

@@ -2,7 +2,7 @@ use Rattle.std.proofs.Common.{◌≡◌, [], ◌≤◌, length}
 use Rattle.gproduct.specs.Seats.{Keeps}
 use Rattle.gproduct.specs.Factors.{factor_count}
 use Rattle.gproduct.proofs.Stages.{IsStage}
-use Rattle.gproduct.proofs.products.term_times_within.Given as goal
+use Rattle.gproduct.proofs.products.staged_times.Given as goal
 
 abbrev pub invariant-loop-v : goal.invariant-loop-v
 invariant-loop-v l = record {

@@ -1,9 +1,8 @@
 -- Lanes of words.
-use Rattle.std.proofs.Common.{◌≡◌, ℕ, zero, suc, ◌+◌, ◌*◌, ◌/◌, ◌%◌, ◌^◌, ◌-◌, ◌≤◌, ◌<◌, nat_le, nat_eq, ◌&&◌, List, [], ◌∷◌, length, replicate, ◌++◌, sum, get_or, max, arith, refl, sym, ◌∙◌, ap, inl, inr, Bool}
+use Rattle.std.proofs.Common.{◌≡◌, ℕ, zero, suc, ◌+◌, ◌*◌, ◌/◌, ◌%◌, ◌^◌, ◌-◌, ◌≤◌, ◌<◌, nat_le, nat_eq, ◌&&◌, List, [], ◌∷◌, length, replicate, ◌++◌, get_or, max, arith, refl, sym, ◌∙◌, ap, inl, inr, Bool}
 use Rattle.std.specs.Bool.{Decides}
 use Rattle.std.specs.Int.Bits.{bit_and}
-use Rattle.std.proofs.lemmas.Nat.{and_block, mod_low, shr_high, and_mask, mod-mul-add, shr-shr}
-use Rattle.std.proofs.lemmas.List.Sums.{sum_by-cons, sum_by-append}
+use Rattle.std.proofs.lemmas.Nat.{and_block, mod_low, shr_high, and_mask, shr-shr}
 use Rattle.std.proofs.Math.ListN.{set}
 use Rattle.std.proofs.lemmas.List.{get_or_past, set-append_left}
 use Rattle.std.proofs.lemmas.Nat.Bits.{and_pow}
@@ -20,10 +19,6 @@ lanes-joined (x ∷ xs) h =
     let low : (joined xs * 65536 + x) % 65536 ≡ x = mod_low (joined xs) 16 x (h 0) in
     let high : (joined xs * 65536 + x) / 65536 ≡ joined xs = shr_high (joined xs) 16 x (h 0) in
     rw (low, high) (ap (λ ys. x ∷ ys) (lanes-joined xs (λ k. h (suc k))))
-
-pub length-lanes : (k w : ℕ) → length (lanes k w) ≡ k
-length-lanes zero w = refl
-length-lanes (suc k) w = ap suc (length-lanes k (w / 65536))
 
 pub lane-below : (k w i : ℕ) → get_or (lanes k w) i 0 < 65536
 lane-below zero w i = omega arith
@@ -50,17 +45,6 @@ joined-minus [] (y ∷ ys) e h = absurd (omega arith)
 joined-minus (x ∷ xs) [] e h = absurd (omega arith)
 joined-minus (x ∷ xs) (y ∷ ys) e h =
     omega (arith, h 0, joined-minus xs ys (omega arith) (λ k. h (suc k)), joined-le ys xs (omega arith) (λ k. h (suc k)))
-
--- bits of words
-pub joined-and : (xs ys : List ℕ) → length xs ≡ length ys → ((k : ℕ) → get_or xs k 0 < 65536) → ((k : ℕ) → get_or ys k 0 < 65536) →
-    joined (zip_with (λ x y. bit_and x y) xs ys) ≡ bit_and (joined xs) (joined ys)
-joined-and [] [] e h g = refl
-joined-and [] (y ∷ ys) e h g = absurd (omega arith)
-joined-and (x ∷ xs) [] e h g = absurd (omega arith)
-joined-and (x ∷ xs) (y ∷ ys) e h g =
-    let ih : joined (zip_with (λ x y. bit_and x y) xs ys) ≡ bit_and (joined xs) (joined ys) =
-    joined-and xs ys (omega arith) (λ k. h (suc k)) (λ k. g (suc k)) in
-    ap (λ n. n * 65536 + bit_and x y) ih ∙ sym (and_block 16 (joined xs) (joined ys) x y (h 0) (g 0))
 
 -- the top bit of each of `k` lanes
 abbrev pub tops : ℕ → ℕ
@@ -164,18 +148,6 @@ maxima_are (x ∷ xs) (y ∷ ys) e h g =
     let ih : joined xs + bit_and q (m * 32767) ≡ joined (zip_with (λ x y. max x y) xs ys) =
     maxima_are xs ys (omega arith) (λ k. h (suc k)) (λ k. g (suc k)) in
     rw (split, times, both) (omega (arith, ih, lane_max x y (h 0) (g 0)))
-
--- the sum of the lanes is the word modulo 65535
-abbrev pub carries : List ℕ → ℕ
-carries [] = 0
-carries (x ∷ xs) = joined xs + carries xs
-
-pub joined-sum : (xs : List ℕ) → joined xs ≡ carries xs * 65535 + sum xs
-joined-sum [] = refl
-joined-sum (x ∷ xs) = omega (arith, joined-sum xs, sum_by-cons (λ x. x) x xs)
-
-pub sum_is : (xs : List ℕ) → sum xs < 65535 → joined xs % 65535 ≡ sum xs
-sum_is xs h = ap (λ n. n % 65535) (joined-sum xs) ∙ mod-mul-add (carries xs) 65535 (sum xs) h
 
 -- one lane, by shift and mask
 pub lane_is : (k w i : ℕ) → i < k → get_or (lanes k w) i 0 ≡ w / 2 ^ (16 * i) % 65536
@@ -389,60 +361,7 @@ divides_four vs ws e g =
     ∙ sym (ap (λ xs. divides (spread xs) (spread ws)) (listed 4 vs e)
     ∙ (ap (λ ys. divides (spread (from_at 4 0 vs)) (spread ys)) (listed 4 ws g) ∙ first))
 
--- a word by the sum of its lanes
-pub word_sum : (w : ℕ) → w < 2 ^ 64 → (w ≡ carries (lanes 4 w) * 65535 + sum (lanes 4 w)) × (w ≤ sum (lanes 4 w) * 281474976710656)
-word_sum w h =
-    let a : ℕ = w / 65536 in
-    let b : ℕ = a / 65536 in
-    let c : ℕ = b / 65536 in (
-      sym (joined-lanes 4 w h) ∙ joined-sum (lanes 4 w),
-      omega (
-        arith,
-        joined-lanes 4 w h,
-        sum_by-cons (λ x. x) (w % 65536) (a % 65536 ∷ b % 65536 ∷ c % 65536 ∷ []),
-        sum_by-cons (λ x. x) (a % 65536) (b % 65536 ∷ c % 65536 ∷ []),
-        sum_by-cons (λ x. x) (b % 65536) (c % 65536 ∷ []),
-        sum_by-cons (λ x. x) (c % 65536) [],
-      ),
-    )
-
--- four words by the sum of all lanes
-module _ (ws : List ℕ) (four : length ws ≡ 4) (whole : (k : ℕ) → get_or ws k 0 < 2 ^ 64) (small : sum (spread ws) ≤ 32767) where
-  four_sums : sum (spread ws)
-      ≡ sum (lanes 4 (get_or ws 0 0)) + (sum (lanes 4 (get_or ws 1 0)) + (sum (lanes 4 (get_or ws 2 0)) + (sum (lanes 4 (get_or ws 3 0)) + 0)))
-  four_sums =
-      let l : ℕ → List ℕ = λ k. lanes 4 (get_or ws k 0) in
-      ap (λ xs. sum (spread xs)) (listed 4 ws four)
-      ∙ (sum_by-append (λ x. x) (l 0) (l 1 ++ (l 2 ++ (l 3 ++ [])))
-      ∙ ap (λ n. sum (l 0) + n) (sum_by-append (λ x. x) (l 1) (l 2 ++ (l 3 ++ []))
-      ∙ ap (λ n. sum (l 1) + n) (sum_by-append (λ x. x) (l 2) (l 3 ++ []) ∙ ap (λ n. sum (l 2) + n) (sum_by-append (λ x. x) (l 3) []))))
-
-  pub four_fit : get_or ws 0 0 + get_or ws 1 0 + get_or ws 2 0 + get_or ws 3 0 < 2 ^ 64
-  four_fit =
-      omega (
-        arith,
-        small,
-        four_sums,
-        (word_sum (get_or ws 0 0) (whole 0)).1,
-        (word_sum (get_or ws 1 0) (whole 1)).1,
-        (word_sum (get_or ws 2 0) (whole 2)).1,
-        (word_sum (get_or ws 3 0) (whole 3)).1,
-      )
-
-  pub four_total : (get_or ws 0 0 + get_or ws 1 0 + get_or ws 2 0 + get_or ws 3 0) % 65535 ≡ sum (spread ws)
-  four_total =
-      let c : ℕ → ℕ = λ k. carries (lanes 4 (get_or ws k 0)) in
-      let e : get_or ws 0 0 + get_or ws 1 0 + get_or ws 2 0 + get_or ws 3 0 ≡ (c 0 + c 1 + c 2 + c 3) * 65535 + sum (spread ws) =
-      omega (
-        arith,
-        four_sums,
-        (word_sum (get_or ws 0 0) (whole 0)).0,
-        (word_sum (get_or ws 1 0) (whole 1)).0,
-        (word_sum (get_or ws 2 0) (whole 2)).0,
-        (word_sum (get_or ws 3 0) (whole 3)).0,
-      ) in
-      ap (λ n. n % 65535) e ∙ mod-mul-add (c 0 + c 1 + c 2 + c 3) 65535 (sum (spread ws)) (omega (arith, small))
-
+-- the word of four lanes
 pub four_lanes : (a b c d w : ℕ) → a < 65536 → b < 65536 → c < 65536 → d < 65536 → w ≡ joined (a ∷ b ∷ c ∷ d ∷ []) → lanes 4 w ≡ a ∷ b ∷ c ∷ d ∷ []
 four_lanes a b c d w fa fb fc fd e = ap (λ n. lanes 4 n) e ∙ lanes-joined (a ∷ b ∷ c ∷ d ∷ []) below
   where

@@ -13,7 +13,7 @@ use Rattle.monomials.specs.Monomials.{degree, plus, minus, lcm, zip_with, divide
 use Rattle.monomials.specs.declared.expo.Expo.TheInside.{Inside}
 use Rattle.monomials.specs.Words.{lanes, spread}
 use Rattle.monomials.specs.Padded.{IsPadded, exponents, padded, padded-exponents, length-exponents, drop-places, sixteen, zeros}
-use Rattle.monomials.proofs.Lanes.{spread_zip, word_lanes-le, word_lanes-same, word_plus, word_minus, small_sums, divides_four, zip_four, lane_at, one_word, listed, from_at}
+use Rattle.monomials.proofs.Lanes.{spread_zip, word_lanes-le, word_lanes-same, word_plus, word_minus, small_sums, divides_four, zip_four, lane_at, one_word, words_below, listed, from_at}
 use Rattle.monomials.proofs.Exponents.{length-zip_with, get_or-zip_with, take-zip_with, sum-zip_with-le, degree-plus, degree-minus, divides_decides, get_or-zeros, sum-zeros, place-le_sum}
 
 -- a lane is an exponent, or zero past the exponents
@@ -138,14 +138,7 @@ module _ (a b : Inside) (m n : List ℕ) (pa : IsPadded a) (pb : IsPadded b) (ea
   plus_padded h =
       let t : a.degree + b.degree ≡ degree (plus m n) = omega (arith, degree-plus m n same, pa.total, pb.total, ap sum ea, ap sum eb) in
       padded_by a b m n pa pb ea eb same (λ x y. x + y) sums refl (sums_spread h) (a.degree + b.degree) refl
-      (words_below sums (plus_at h 0).0 (plus_at h 1).0 (plus_at h 2).0 (plus_at h 3).0) t (omega (arith, pa.total, pb.total, ap sum ea, ap sum eb, h))
-    where
-      words_below : (w : List ℕ) → get_or w 0 0 < 2 ^ 64 → get_or w 1 0 < 2 ^ 64 → get_or w 2 0 < 2 ^ 64 → get_or w 3 0 < 2 ^ 64 → (k : ℕ) → get_or sums k 0 < 2 ^ 64
-      words_below w p q r s zero = (plus_at h 0).0
-      words_below w p q r s (suc zero) = (plus_at h 1).0
-      words_below w p q r s (suc (suc zero)) = (plus_at h 2).0
-      words_below w p q r s (suc (suc (suc zero))) = (plus_at h 3).0
-      words_below w p q r s (suc (suc (suc (suc k)))) = omega arith
+      (words_below _ _ _ _ (plus_at h 0).0 (plus_at h 1).0 (plus_at h 2).0 (plus_at h 3).0) t (omega (arith, pa.total, pb.total, ap sum ea, ap sum eb, h))
 
   pub plus_is : degree m + degree n ≤ 32767 → take a.len (spread sums) ≡ plus m n
   plus_is h = exponents_are a b m n pa pb ea eb same (λ x y. x + y) sums refl (sums_spread h)
@@ -165,15 +158,9 @@ module _ (a b : Inside) (m n : List ℕ) (pa : IsPadded a) (pb : IsPadded b) (ea
   pub minus_padded : IsTrue (divides n m) → IsPadded (record { words = rests; degree = a.degree - b.degree; len = a.len })
   minus_padded h =
       let t : a.degree - b.degree ≡ degree (minus m n) = omega (arith, degree-minus m n same h, pa.total, pb.total, ap sum ea, ap sum eb) in
+      let whole : (k : ℕ) → get_or a.words k 0 - get_or b.words k 0 < 2 ^ 64 = λ k. omega (arith, pa.whole k) in
       padded_by a b m n pa pb ea eb same (λ x y. x - y) rests refl (rests_spread h) (a.degree - b.degree) refl
-      below t (omega (arith, pa.small))
-    where
-      below : (k : ℕ) → get_or rests k 0 < 2 ^ 64
-      below zero = omega (arith, pa.whole 0)
-      below (suc zero) = omega (arith, pa.whole 1)
-      below (suc (suc zero)) = omega (arith, pa.whole 2)
-      below (suc (suc (suc zero))) = omega (arith, pa.whole 3)
-      below (suc (suc (suc (suc k)))) = omega arith
+      (words_below _ _ _ _ (whole 0) (whole 1) (whole 2) (whole 3)) t (omega (arith, pa.small))
 
   pub minus_is : IsTrue (divides n m) → take a.len (spread rests) ≡ minus m n
   minus_is h = exponents_are a b m n pa pb ea eb same (λ x y. x - y) rests refl (rests_spread h)
@@ -227,15 +214,8 @@ module _ (a b : Inside) (m n : List ℕ) (pa : IsPadded a) (pb : IsPadded b) (ea
     pub lcm_padded : degree m + degree n ≤ 32767 → (d : ℕ) → d ≡ sum (spread (r ∷ s ∷ t ∷ u ∷ [])) → r < 2 ^ 64 → s < 2 ^ 64 → t < 2 ^ 64 → u < 2 ^ 64 →
         IsPadded (record { words = r ∷ s ∷ t ∷ u ∷ []; degree = d; len = a.len })
     lcm_padded h d e fr fs ft fu =
-        padded_by a b m n pa pb ea eb same (λ x y. max x y) (r ∷ s ∷ t ∷ u ∷ []) refl maxima_spread d refl below (e ∙ lcm_total)
+        padded_by a b m n pa pb ea eb same (λ x y. max x y) (r ∷ s ∷ t ∷ u ∷ []) refl maxima_spread d refl (words_below r s t u fr fs ft fu) (e ∙ lcm_total)
         (omega (arith, e, lcm_small h))
-      where
-        below : (k : ℕ) → get_or (r ∷ s ∷ t ∷ u ∷ []) k 0 < 2 ^ 64
-        below zero = fr
-        below (suc zero) = fs
-        below (suc (suc zero)) = ft
-        below (suc (suc (suc zero))) = fu
-        below (suc (suc (suc (suc k)))) = omega arith
 
 -- words and lengths are equal just where the monomials are
 pub equal_words : (a b : Inside) (m n : List ℕ) → IsPadded a → IsPadded b → exponents a ≡ m → exponents b ≡ n →

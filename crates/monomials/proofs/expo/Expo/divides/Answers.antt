@@ -27,4 +27,5 @@ lanes_divide-requires-4-clause-right c = lanes_small c.other.inside c.other.inva
 
 pub returns : goal.returns
 returns c =
-    divides_result c.self.inside c.other.inside _ _ c.self.invariant c.other.invariant c.self.view_is c.other.view_is c.requires _ _ _ _ c.lanes_divide.ensures c.lanes_divide-2.ensures c.lanes_divide-3.ensures c.lanes_divide-4.ensures
+    divides_result c.self.inside c.other.inside _ _ c.self.invariant c.other.invariant c.self.view_is c.other.view_is c.requires
+    _ _ _ _ c.lanes_divide.ensures c.lanes_divide-2.ensures c.lanes_divide-3.ensures c.lanes_divide-4.ensures

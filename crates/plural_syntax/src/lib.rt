@@ -14,7 +14,7 @@ mod word;
 
 pub use parsing::{SyntaxFault, parse};
 pub use tree::{
-    Added, Base, Expr, ExprAfter, ExprList, ExprPair, Factor, Function, FunctionName, Index, Item, ItemAfter, ItemList,
-    Order, Power, Scaled, Script, Side, Statement, Term, TokenAfter, TokenGroup, TokenList, Value,
-    Values, Vars,
+    Added, Base, Expr, ExprAfter, ExprList, ExprPair, Factor, Function, FunctionName, Index, Item,
+    ItemAfter, ItemList, Order, Power, Scaled, Script, Side, Statement, Term, TokenAfter,
+    TokenGroup, TokenList, Value, Values, Vars,
 };

@@ -9,8 +9,8 @@ use crate::expressions::{called, expr, list, resumed};
 use crate::levels::Levels;
 use crate::reading::{Stop, maybe_index, take, token_group};
 use crate::tree::{
-    Base, ExprPair, Function, FunctionName, Index, Item, ItemAfter, ItemList, Order, Side, Statement, TokenGroup, Value,
-    Values, Vars,
+    Base, ExprPair, Function, FunctionName, Index, Item, ItemAfter, ItemList, Order, Side,
+    Statement, TokenGroup, Value, Values, Vars,
 };
 use crate::word::{Word, next, next_is};
 use plural_lexer::Token;

@@ -1,16 +1,17 @@
 -- The least job of a list is the first of a queue that has the same jobs.
-use Rattle.std.proofs.Common.{◌≡◌, ◌⊎◌, inl, inr, ◌||◌, Bool, true, false, List, [], ◌∷◌, if◌then◌else◌, refl, sym, ap, ◌∙◌}
-use Rattle.std.proofs.Common.{Ordering, Less, is_lt}
-use Rattle.std.specs.Ordering.{ordering_then}
-use Rattle.monomials.specs.Monomials.{Monomial}
+use Rattle.std.proofs.Common.{◌≡◌, ℕ, ◌⊎◌, inl, inr, ◌||◌, Bool, true, false, List, [], ◌∷◌, if◌then◌else◌, refl, sym, ap, ◌∙◌}
+use Rattle.std.proofs.Common.{Less, is_lt}
+use Rattle.std.specs.Ordering.{nat_cmp, ordering_then}
 use Rattle.monomials.specs.Orders.{order_cmp}
 use Rattle.monomials.specs.Polynomials.{Polynomial, Each}
 use Rattle.word_model.specs.Words.{Algebra}
-use Rattle.word_model.specs.Jobs.{same_job, is_queued, key_monomial, key_cmp, rank_of, rank_cmp, least_job}
+use Rattle.word_model.specs.Jobs.{same_job, is_queued, key_cmp, rank_of, rank_cmp, least_job}
 use Rattle.word_model.specs.declared.records.Job.{Job}
 use Rattle.pair_strategy.specs.Queues.{keyed_cmp, jobs_in, IsRising, HasKey, SameJobs}
 use Rattle.pair_strategy.specs.declared.keys.Keyed.{Keyed}
-use Rattle.pair_strategy.proofs.Ordered.{key_total, same_job-is, same_job-itself, is_less, one_way}
+use Rattle.word_model.proofs.JobOrder.{key_total}
+use Rattle.word_model.proofs.JobLists.{same_job-is, same_job-itself}
+use Rattle.pair_strategy.proofs.Ordered.{is_less, one_way}
 use Rattle.pair_strategy.proofs.Members.{either, or_second}
 
 -- what holds of each job that a list has
@@ -19,30 +20,30 @@ Each-queued P [] h = tt
 Each-queued P (job ∷ jobs) h =
     (h job (ap (λ t. t || is_queued jobs job) (same_job-itself job)), Each-queued P jobs (λ other e. h other (or_second (same_job other job) (is_queued jobs other) e)))
 
-module _ (A : Algebra) (gens G : List Polynomial) where
+module _ (A : Algebra) (gens G : List Polynomial) (sugars : List ℕ) where
   -- a job that is `first`, or has a greater key
   abbrev IsLater : Job → Job → Type 0
-  IsLater first job = (job ≡ first) ⊎ (key_cmp A gens G first job ≡ Less)
+  IsLater first job = (job ≡ first) ⊎ (key_cmp A gens G sugars first job ≡ Less)
 
   -- a scan for the least job ends with the one that all others are later than
-  scan : (first job : Job) (jobs : List Job) → Each (IsLater first) (job ∷ jobs) → is_queued (job ∷ jobs) first ≡ true → least_job A gens G job jobs ≡ first
+  scan : (first job : Job) (jobs : List Job) → Each (IsLater first) (job ∷ jobs) → is_queued (job ∷ jobs) first ≡ true → least_job A gens G sugars job jobs ≡ first
   scan first job [] later there = by (either (same_job first job) false there)
     where
       by : (same_job first job ≡ true) ⊎ (false ≡ true) → job ≡ first
       by (inl e) = sym (same_job-is first job e)
       by (inr e) = cc
-  scan first job (other ∷ jobs) later there = by (is_lt (key_cmp A gens G other job)) refl (scan first other jobs later.1) (scan first job jobs (later.0, later.1.1))
+  scan first job (other ∷ jobs) later there = by (is_lt (key_cmp A gens G sugars other job)) refl (scan first other jobs later.1) (scan first job jobs (later.0, later.1.1))
     where
-      one : is_lt (key_cmp A gens G other job) ≡ true → (same_job first job ≡ true) ⊎ (is_queued (other ∷ jobs) first ≡ true) → IsLater first other
+      one : is_lt (key_cmp A gens G sugars other job) ≡ true → (same_job first job ≡ true) ⊎ (is_queued (other ∷ jobs) first ≡ true) → IsLater first other
           → is_queued (other ∷ jobs) first ≡ true
       one e (inr h) is = h
       one e (inl h) (inl is) =
           ap (λ t. t || is_queued jobs first) (ap (same_job first) is ∙ same_job-itself first)
       one e (inl h) (inr less) =
           let here : first ≡ job = same_job-is first job h in
-          absurd (one_way (key_total A gens G) first other less (ap (key_cmp A gens G other) here ∙ is_less (key_cmp A gens G other job) e))
+          absurd (one_way (key_total A gens G sugars) first other less (ap (key_cmp A gens G sugars other) here ∙ is_less (key_cmp A gens G sugars other job) e))
 
-      another : is_lt (key_cmp A gens G other job) ≡ false → (same_job first job ≡ true) ⊎ (is_queued (other ∷ jobs) first ≡ true) → IsLater first job
+      another : is_lt (key_cmp A gens G sugars other job) ≡ false → (same_job first job ≡ true) ⊎ (is_queued (other ∷ jobs) first ≡ true) → IsLater first job
           → is_queued (job ∷ jobs) first ≡ true
       another e (inl h) is = ap (λ t. t || is_queued jobs first) h
       another e (inr h) is = or_there (either (same_job first other) (is_queued jobs first) h) is
@@ -52,37 +53,35 @@ module _ (A : Algebra) (gens G : List Polynomial) where
           or_there (inl same) (inl is) = ap (λ t. t || is_queued jobs first) (ap (same_job first) is ∙ same_job-itself first)
           or_there (inl same) (inr less) =
               let here : first ≡ other = same_job-is first other same in
-              let no : true ≡ false = sym (ap is_lt less) ∙ ap (λ j. is_lt (key_cmp A gens G j job)) here ∙ e in
+              let no : true ≡ false = sym (ap is_lt less) ∙ ap (λ j. is_lt (key_cmp A gens G sugars j job)) here ∙ e in
               cc
 
-      by : (t : Bool) → is_lt (key_cmp A gens G other job) ≡ t
-          → (is_queued (other ∷ jobs) first ≡ true → least_job A gens G other jobs ≡ first)
-          → (is_queued (job ∷ jobs) first ≡ true → least_job A gens G job jobs ≡ first)
-          → least_job A gens G (if t then other else job) jobs ≡ first
+      by : (t : Bool) → is_lt (key_cmp A gens G sugars other job) ≡ t
+          → (is_queued (other ∷ jobs) first ≡ true → least_job A gens G sugars other jobs ≡ first)
+          → (is_queued (job ∷ jobs) first ≡ true → least_job A gens G sugars job jobs ≡ first)
+          → least_job A gens G sugars (if t then other else job) jobs ≡ first
       by true e with_other with_job = with_other (one e (either (same_job first job) (is_queued (other ∷ jobs) first) there) later.1.0)
       by false e with_other with_job = with_job (another e (either (same_job first job) (is_queued (other ∷ jobs) first) there) later.0)
 
-  -- keys by their monomials are the keys of the jobs
-  keyed_is : (a b : Keyed) → HasKey A gens G a → HasKey A gens G b → keyed_cmp A.order a b ≡ key_cmp A gens G a.job b.job
-  keyed_is a b ka kb = ap (λ m. at m b.mono) ka ∙ ap (λ m. at (key_monomial A gens G a.job) m) kb
-    where
-      at : Monomial → Monomial → Ordering
-      at m l = ordering_then (order_cmp A.order.rows m l) (rank_cmp (rank_of a.job) (rank_of b.job))
+  -- keys by their sugars and monomials are the keys of the jobs
+  keyed_is : (a b : Keyed) → HasKey A gens G sugars a → HasKey A gens G sugars b → keyed_cmp A.order a b ≡ key_cmp A gens G sugars a.job b.job
+  keyed_is a b ka kb =
+      λ t. ordering_then (nat_cmp (ka.0 t) (kb.0 t)) (ordering_then (order_cmp A.order.rows (ka.1 t) (kb.1 t)) (rank_cmp (rank_of a.job) (rank_of b.job)))
 
   -- the jobs behind the first have greater keys
-  behind : (first : Keyed) (rest : List Keyed) (job : Job) → HasKey A gens G first → Each (HasKey A gens G) rest → Each (λ b. keyed_cmp A.order first b ≡ Less) rest
-      → is_queued (jobs_in rest) job ≡ true → key_cmp A gens G first.job job ≡ Less
+  behind : (first : Keyed) (rest : List Keyed) (job : Job) → HasKey A gens G sugars first → Each (HasKey A gens G sugars) rest → Each (λ b. keyed_cmp A.order first b ≡ Less) rest
+      → is_queued (jobs_in rest) job ≡ true → key_cmp A gens G sugars first.job job ≡ Less
   behind first [] job key keys less e = cc
   behind first (b ∷ rest) job key keys less e =
       by (either (same_job job b.job) (is_queued (jobs_in rest) job) e) (behind first rest job key keys.1 less.1)
     where
-      by : (same_job job b.job ≡ true) ⊎ (is_queued (jobs_in rest) job ≡ true) → (is_queued (jobs_in rest) job ≡ true → key_cmp A gens G first.job job ≡ Less)
-          → key_cmp A gens G first.job job ≡ Less
-      by (inl here) ih = ap (key_cmp A gens G first.job) (same_job-is job b.job here) ∙ sym (keyed_is first b key keys.0) ∙ less.0
+      by : (same_job job b.job ≡ true) ⊎ (is_queued (jobs_in rest) job ≡ true) → (is_queued (jobs_in rest) job ≡ true → key_cmp A gens G sugars first.job job ≡ Less)
+          → key_cmp A gens G sugars first.job job ≡ Less
+      by (inl here) ih = ap (key_cmp A gens G sugars first.job) (same_job-is job b.job here) ∙ sym (keyed_is first b key keys.0) ∙ less.0
       by (inr later) ih = ih later
 
-  pub least_is_first : (first : Keyed) (rest : List Keyed) (job : Job) (jobs : List Job) → IsRising A.order (first ∷ rest) → Each (HasKey A gens G) (first ∷ rest)
-      → SameJobs (job ∷ jobs) (jobs_in (first ∷ rest)) → least_job A gens G job jobs ≡ first.job
+  pub least_is_first : (first : Keyed) (rest : List Keyed) (job : Job) (jobs : List Job) → IsRising A.order (first ∷ rest) → Each (HasKey A gens G sugars) (first ∷ rest)
+      → SameJobs (job ∷ jobs) (jobs_in (first ∷ rest)) → least_job A gens G sugars job jobs ≡ first.job
   least_is_first first rest job jobs rising keys same =
       scan first.job job jobs (Each-queued (IsLater first.job) (job ∷ jobs) later) (same first.job ∙ ap (λ t. t || is_queued (jobs_in rest) first.job) (same_job-itself first.job))
     where

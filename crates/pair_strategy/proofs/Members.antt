@@ -10,7 +10,7 @@ use Rattle.word_model.specs.declared.records.Job.{Job}
 use Rattle.word_model.specs.declared.records.Job.TheVariants.{Seed, Pair, Right}
 use Rattle.pair_strategy.specs.Queues.{keyed_cmp, jobs_in, with_item, IsSet, SameJobs}
 use Rattle.pair_strategy.specs.declared.keys.Keyed.{Keyed}
-use Rattle.pair_strategy.proofs.Ordered.{same_job-is, same_job-itself}
+use Rattle.word_model.proofs.JobLists.{same_job-is, same_job-itself}
 
 -- ---- truth values
 

@@ -2,25 +2,26 @@
 use Rattle.std.specs.Prelude.{◌≡◌, ℕ, false, List, [], ◌∷◌, length, map, if◌then◌else◌}
 use Rattle.std.specs.declared.cmp.Ordering.{Ordering}
 use Rattle.std.specs.declared.cmp.Ordering.TheVariants.{Less}
-use Rattle.std.specs.Ordering.{ordering_then, is_lt}
+use Rattle.std.specs.Ordering.{nat_cmp, ordering_then, is_lt}
 use Rattle.monomials.specs.Orders.{RowOrder, order_cmp}
 use Rattle.monomials.specs.Polynomials.{Polynomial, Each}
 use Rattle.word_model.specs.Words.{Algebra}
-use Rattle.word_model.specs.Jobs.{is_queued, key_monomial, rank_of, rank_cmp}
+use Rattle.word_model.specs.Jobs.{is_queued, job_sugar, key_monomial, rank_of, rank_cmp}
 use Rattle.word_model.specs.declared.records.Job.{Job}
 use Rattle.pair_strategy.specs.declared.keys.Keyed.{Keyed}
 
--- a queue: its order of monomials, its jobs with their monomials in rising order of keys, and how many more find room
+-- a queue: its order of monomials, its jobs with their sugars and monomials in rising order of keys, and how many more find room
 pub record JobQueue : Type 0 where
   pub order : RowOrder
   pub items : List Keyed
   pub spare : ℕ
 
--- the order of keys: by their monomials, and then by rank
+-- the order of keys: by their sugars, then by their monomials, and then by rank
 abbrev pub keyed_cmp : RowOrder → Keyed → Keyed → Ordering
-keyed_cmp o a b = ordering_then (order_cmp o.rows a.mono b.mono) (rank_cmp (rank_of a.job) (rank_of b.job))
+keyed_cmp o a b =
+    ordering_then (nat_cmp a.sugar b.sugar) (ordering_then (order_cmp o.rows a.mono b.mono) (rank_cmp (rank_of a.job) (rank_of b.job)))
 
--- the jobs without their monomials
+-- the jobs without their sugars and monomials
 abbrev pub jobs_in : List Keyed → List Job
 jobs_in items = map (λ k. k.job) items
 
@@ -45,9 +46,9 @@ pub record IsQueue (q : JobQueue) : Type 0 where
   pub set : IsSet (jobs_in q.items)
   pub vars : Each (λ k. length k.mono ≡ q.order.vars) q.items
 
--- the monomial is that of the job's key
-abbrev pub HasKey : Algebra → List Polynomial → List Polynomial → Keyed → Type 0
-HasKey A gens G k = k.mono ≡ key_monomial A gens G k.job
+-- the sugar and the monomial are those of the job's key
+abbrev pub HasKey : Algebra → List Polynomial → List Polynomial → List ℕ → Keyed → Type 0
+HasKey A gens G sugars k = (k.sugar ≡ job_sugar gens G sugars k.job) × (k.mono ≡ key_monomial A gens G k.job)
 
 -- two lists have the same jobs
 abbrev pub SameJobs : List Job → List Job → Type 0

@@ -1,6 +1,6 @@
 //! Laws of queues, each the contract of a function without a body.
 
-ghost use Rattle.std.specs.Prelude.{◌≡◌, ◌||◌, List, ◌∷◌, false};
+ghost use Rattle.std.specs.Prelude.{◌≡◌, ℕ, ◌||◌, List, ◌∷◌, false};
 ghost use Rattle.monomials.specs.Orders.{RowOrder};
 ghost use Rattle.monomials.specs.Polynomials.{Polynomial, Each};
 ghost use Rattle.word_model.specs.Words.{Algebra};
@@ -11,10 +11,10 @@ ghost use Rattle.pair_strategy.specs.declared.keys.Keyed.{Keyed};
 
 /// The job of the least key, among any list of the jobs that a queue has, is the queue's first.
 pub fn first_is_least()
-    ensures { (A : Algebra) (gens G : List Polynomial) (first : Keyed) (rest : List Keyed)
-        (job : Job) (jobs : List Job) → IsRising A.order (first ∷ rest) →
-        Each (HasKey A gens G) (first ∷ rest) → SameJobs (job ∷ jobs) (jobs_in (first ∷ rest)) →
-        least_job A gens G job jobs ≡ first.job }
+    ensures { (A : Algebra) (gens G : List Polynomial) (sugars : List ℕ) (first : Keyed)
+        (rest : List Keyed) (job : Job) (jobs : List Job) → IsRising A.order (first ∷ rest) →
+        Each (HasKey A gens G sugars) (first ∷ rest) → SameJobs (job ∷ jobs) (jobs_in (first ∷ rest)) →
+        least_job A gens G sugars job jobs ≡ first.job }
 {}
 
 /// A queue's items are a set in rising order of keys, which `push` adds one job to and `take_first`

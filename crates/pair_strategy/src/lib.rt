@@ -1,7 +1,7 @@
 //! Which job of a run comes next: keys, the queue in their order, and the chain rule.
 #![tactic(auto)]
 
-pub use keys::{Keyed, job_key};
+pub use keys::{Keyed, element_sugar, job_key};
 pub use queue::Queue;
 pub use witness::chain_witness;
 

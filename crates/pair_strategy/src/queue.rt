@@ -11,7 +11,7 @@ use run_records::Job;
 use std::alloc::{AllocError, Global};
 use std::marker::Model;
 
-/// Jobs that wait, each with the monomial of its key, in the order of keys. Only `reserve` and
+/// Jobs that wait, each with the sugar and the monomial of its key, in the order of keys. Only `reserve` and
 /// `ahead` take memory.
 #[derive(Drop)]
 pub struct Queue {

@@ -1,5 +1,7 @@
 -- Sugars: an element's sugar is at least its degree.
-use Rattle.std.proofs.Common.{◌≡◌, ℕ, zero, suc, ◌+◌, ◌-◌, ◌≤◌, max, true, List, [], ◌∷◌, ◌++◌, length, Option, Some, None, slice_index_or, refl, sym, ap, ◌∙◌, subst, arith}
+use Rattle.std.proofs.lemmas.Bool.{leb-true}
+use Rattle.std.proofs.lemmas.List.Sums.{sum_by-cons}
+use Rattle.std.proofs.Common.{◌≡◌, ℕ, zero, suc, ◌+◌, ◌-◌, ◌<◌, ◌≤◌, max, true, List, [], ◌∷◌, ◌++◌, length, Option, Some, None, slice_index_or, refl, sym, ap, ◌∙◌, subst, arith}
 use Rattle.monomials.specs.Monomials.{Monomial, degree, plus, minus, lcm}
 use Rattle.monomials.specs.Polynomials.{Polynomial, Each, HasVars, poly_degree}
 use Rattle.monomials.specs.Leading.{leading_monomial, leading_coefficient}
@@ -8,7 +10,7 @@ use Rattle.word_model.specs.Words.{Algebra}
 use Rattle.word_model.specs.Conditions.{IsGAlgebra}
 use Rattle.word_model.specs.Products.{product, variable_polynomial, degree_limit}
 use Rattle.word_model.specs.Reduction.{element, quotient, multiple, is_within, Target, leading_target, step_by, less_step, Goes, next_step, reduce}
-use Rattle.word_model.specs.Jobs.{IsJob, start_of, s_polynomial, pair_within, sugar_at, job_sugar, element_sugar, AreSugars}
+use Rattle.word_model.specs.Jobs.{IsJob, start_of, s_polynomial, pair_within, sugar_at, job_sugar, element_sugar, AreSugars, UsesElements}
 use Rattle.word_model.specs.Machine.{IsElement}
 use Rattle.word_model.specs.declared.records.Job.{Job}
 use Rattle.word_model.specs.declared.records.Job.TheVariants.{Seed, Pair, Right}
@@ -51,7 +53,7 @@ pub AreSugars-element : (G : List Polynomial) (sugars : List ℕ) (i : ℕ) → 
 AreSugars-element G sugars i h = AreSugars-index G sugars (i - 1) h
 
 -- and so is that of its leading monomial
-lead_degree : (f : Polynomial) → degree (leading_monomial f) ≤ poly_degree f
+pub lead_degree : (f : Polynomial) → degree (leading_monomial f) ≤ poly_degree f
 lead_degree [] = omega arith
 lead_degree (t ∷ f) = omega arith
 
@@ -152,8 +154,90 @@ module _ (A : Algebra) (ok : IsGAlgebra A) where
         (λ h s h' h_is h'_is e r ih n low. ih (max n (sugar_at sugars s.index + degree s.mono)) (next_step-sugar h s h' n h_is e low))
         h h_is n low
 
+    -- the steps use elements that there are
+    pub reduce-uses : (h : Polynomial) → IsOf A ok h → UsesElements (length G) (reduce A G h).trace
+    reduce-uses h h_is =
+        reduction_cases A ok G elements (leading_target G) (reduce A G) (leading_reduction A ok G elements)
+        (λ h r. UsesElements (length G) r.trace)
+        (λ h h_is e. tt)
+        (λ h h_is. tt)
+        (λ h s h' h_is h'_is e r ih. (uses h s h' e, ih))
+        h h_is
+      where
+        red : IsReduction A ok G (leading_target G) (reduce A G)
+        red = leading_reduction A ok G elements
+
+        uses : (h : Polynomial) (s : TraceStep) (h' : Polynomial) → next_step A G h (leading_target G h) ≡ Goes s h'
+            → (1 ≤ s.index) × (s.index ≤ length G) × (degree s.mono ≤ degree_limit)
+        uses h s h' e = by (leading_target G h) refl e
+          where
+            by : (o : Option Target) → leading_target G h ≡ o → next_step A G h o ≡ Goes s h'
+                → (1 ≤ s.index) × (s.index ≤ length G) × (degree s.mono ≤ degree_limit)
+            by None at e = cc
+            by (Some (t, i)) at e =
+                let picked : IsPicked A G (leading_target G) h t i = red.targeting h t i at in
+                let m : Monomial = (step_by A t i (element G i)).mono in
+                let goes : (is_within m (element G i) ≡ true) × (step_by A t i (element G i) ≡ s) × (less_step A G h (step_by A t i (element G i)) ≡ h') =
+                next_step-goes A G h t i s h' e in
+                let low : degree m + poly_degree (element G i) ≤ degree_limit = leb-true (degree m + poly_degree (element G i)) degree_limit goes.0 in
+                subst (λ (s : TraceStep). (1 ≤ s.index) × (s.index ≤ length G) × (degree s.mono ≤ degree_limit)) goes.1
+                (picked.divisor.low, picked.divisor.high, omega (arith, low))
+
 -- ---- bounds
 
--- the steps of a trace use elements that there are, and their monomials have no degree above the limit
-abbrev pub UsesElements : List Polynomial → List TraceStep → Type 0
-UsesElements G trace = Each (λ s. (1 ≤ s.index) × (s.index ≤ length G) × (degree s.mono ≤ degree_limit)) trace
+-- the degree of an lcm is at most the sum of the degrees
+pub degree-lcm : (a b : Monomial) → degree (lcm a b) ≤ degree a + degree b
+degree-lcm [] b = omega arith
+degree-lcm (x ∷ a) [] = omega arith
+degree-lcm (x ∷ a) (y ∷ b) =
+    omega (arith, degree-lcm a b, sum_by-cons (λ x. x) x a, sum_by-cons (λ x. x) y b, sum_by-cons (λ x. x) (max x y) (lcm a b))
+
+-- a sugar of a list whose sugars are at most b
+pub sugar_at-most : (b : ℕ) (sugars : List ℕ) (i : ℕ) → Each (λ n. n ≤ b) sugars → sugar_at sugars i ≤ b
+sugar_at-most b sugars i few = at sugars (i - 1) few
+  where
+    at : (sugars : List ℕ) (k : ℕ) → Each (λ n. n ≤ b) sugars → slice_index_or sugars k 0 ≤ b
+    at [] k few = omega arith
+    at (n ∷ sugars) zero few = few.0
+    at (n ∷ sugars) (suc k) few = at sugars k few.1
+
+-- an element's sugar is at most c, where that of its job is and the steps cannot reach higher
+pub element_sugar-most : (b c : ℕ) (sugars : List ℕ) (m n : ℕ) (trace : List TraceStep) → Each (λ n. n ≤ b) sugars → b + degree_limit ≤ c → UsesElements m trace
+    → n ≤ c → element_sugar sugars n trace ≤ c
+element_sugar-most b c sugars m n [] few wide uses low = low
+element_sugar-most b c sugars m n (t ∷ trace) few wide uses low =
+    element_sugar-most b c sugars m (max n (sugar_at sugars t.index + degree t.mono)) trace few wide uses.1
+    (omega (arith, low, wide, sugar_at-most b sugars t.index few, uses.0.2))
+
+-- ---- longer lists
+
+sugar_at-append : (sugars : List ℕ) (n i : ℕ) → 1 ≤ i → i ≤ length sugars → sugar_at (sugars ++ n ∷ []) i ≡ sugar_at sugars i
+sugar_at-append sugars n i low high = at sugars (i - 1) (omega arith)
+  where
+    at : (sugars : List ℕ) (k : ℕ) → k < length sugars → slice_index_or (sugars ++ n ∷ []) k 0 ≡ slice_index_or sugars k 0
+    at [] k h = absurd (omega arith)
+    at (m ∷ sugars) zero h = refl
+    at (m ∷ sugars) (suc k) h = at sugars k (omega arith)
+
+element-append : (G : List Polynomial) (g : Polynomial) (i : ℕ) → 1 ≤ i → i ≤ length G → element (G ++ g ∷ []) i ≡ element G i
+element-append G g i low high = at G (i - 1) (omega arith)
+  where
+    at : (G : List Polynomial) (k : ℕ) → k < length G → slice_index_or (G ++ g ∷ []) k [] ≡ slice_index_or G k []
+    at [] k h = absurd (omega arith)
+    at (f ∷ G) zero h = refl
+    at (f ∷ G) (suc k) h = at G k (omega arith)
+
+-- a job's sugar stays as the basis grows
+pub job_sugar-append : (gens G : List Polynomial) (sugars : List ℕ) (g : Polynomial) (n k : ℕ) (job : Job) → AreSugars G sugars → IsJob (length gens) (length G) k job
+    → job_sugar gens (G ++ g ∷ []) (sugars ++ n ∷ []) job ≡ job_sugar gens G sugars job
+job_sugar-append gens G sugars g n k (Seed s) are named = refl
+job_sugar-append gens G sugars g n k (Pair i j) are named =
+    let count : length sugars ≡ length G = AreSugars-length G sugars are in
+    let gi : element (G ++ g ∷ []) i ≡ element G i = element-append G g i named.0 (omega (arith, named.1, named.2)) in
+    let gj : element (G ++ g ∷ []) j ≡ element G j = element-append G g j (omega (arith, named.0, named.1)) named.2 in
+    let si : sugar_at (sugars ++ n ∷ []) i ≡ sugar_at sugars i = sugar_at-append sugars n i named.0 (omega (arith, named.1, named.2, count)) in
+    let sj : sugar_at (sugars ++ n ∷ []) j ≡ sugar_at sugars j = sugar_at-append sugars n j (omega (arith, named.0, named.1)) (omega (arith, named.2, count)) in
+    λ x. degree (lcm (leading_monomial (gi x)) (leading_monomial (gj x))) + max (si x - degree (leading_monomial (gi x))) (sj x - degree (leading_monomial (gj x)))
+job_sugar-append gens G sugars g n k (Right i v) are named =
+    let count : length sugars ≡ length G = AreSugars-length G sugars are in
+    ap (λ s. s + 1) (sugar_at-append sugars n i named.0 (omega (arith, named.1, count)))

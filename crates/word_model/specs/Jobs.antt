@@ -5,10 +5,10 @@ use Rattle.std.specs.declared.cmp.Ordering.{Ordering}
 use Rattle.std.specs.Ordering.{nat_cmp, ordering_then, is_lt}
 use Rattle.monomials.specs.Monomials.{Monomial, degree, minus, lcm, plus, variable}
 use Rattle.monomials.specs.Orders.{order_cmp}
-use Rattle.monomials.specs.Polynomials.{Polynomial, poly_degree, poly_sub}
+use Rattle.monomials.specs.Polynomials.{Polynomial, Each, poly_degree, poly_sub}
 use Rattle.monomials.specs.Leading.{leading_monomial, leading_coefficient}
 use Rattle.word_model.specs.Words.{Algebra}
-use Rattle.word_model.specs.Products.{product, variable_polynomial, in_reach}
+use Rattle.word_model.specs.Products.{product, variable_polynomial, in_reach, degree_limit}
 use Rattle.word_model.specs.Reduction.{element, least_number, lead_divides, quotient, multiple, is_within}
 use Rattle.word_model.specs.declared.records.Job.{Job}
 use Rattle.word_model.specs.declared.records.Job.TheVariants.{Seed, Pair, Right}
@@ -151,3 +151,7 @@ abbrev pub AreSugars : List Polynomial → List ℕ → Type 0
 AreSugars [] [] = Unit {0}
 AreSugars (g ∷ G) (n ∷ sugars) = (poly_degree g ≤ n) × AreSugars G sugars
 AreSugars _ _ = ⊥
+
+-- the steps use elements among the first m, and their monomials have no degree above the limit
+abbrev pub UsesElements : ℕ → List TraceStep → Type 0
+UsesElements m trace = Each (λ s. (1 ≤ s.index) × (s.index ≤ m) × (degree s.mono ≤ degree_limit)) trace

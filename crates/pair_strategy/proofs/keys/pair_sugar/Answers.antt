@@ -1,0 +1,27 @@
+use Rattle.std.proofs.Common.{◌≡◌, ap, ◌∙◌, arith}
+use Rattle.monomials.specs.Monomials.{degree}
+use Rattle.monomials.specs.Leading.{leading_monomial}
+use Rattle.word_model.specs.Reduction.{element}
+use Rattle.word_model.proofs.Sugars.{degree-lcm, sugar_at-most}
+use Rattle.pair_strategy.proofs.keys.pair_sugar.Goals as goal
+
+pub returns-clause-most : goal.returns-clause-most
+returns-clause-most g c = λ b few.
+    let G = g.B.Elements.elements c.args.basis.now in
+    let first : degree c.lead.result ≡ degree (leading_monomial (element G c.args.i)) = ap degree (c.lead.ensures.value ∙ ap leading_monomial c.at.ensures) in
+    let second : degree c.lead-2.result ≡ degree (leading_monomial (element G c.args.j)) = ap degree (c.lead-2.ensures.value ∙ ap leading_monomial c.at-2.ensures) in
+    omega (
+      arith,
+      c.degree.ensures.value,
+      ap degree c.lcm-lcm.ensures,
+      degree-lcm c.lead.result c.lead-2.result,
+      first,
+      second,
+      c.max.ensures,
+      c.excess-first.ensures.sum,
+      c.excess-first.ensures.lead,
+      c.excess-second.ensures.sum,
+      c.excess-second.ensures.lead,
+      sugar_at-most b c.args.sugars.now c.args.i few,
+      sugar_at-most b c.args.sugars.now c.args.j few,
+    )

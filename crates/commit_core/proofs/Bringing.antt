@@ -17,6 +17,7 @@ use Rattle.word_model.specs.declared.records.Mode.{Mode}
 use Rattle.word_model.specs.declared.records.Mode.TheVariants.{Left, TwoSided}
 use Rattle.word_model.proofs.LeastNumbers.{Each-element}
 use Rattle.word_model.proofs.Steps.{element-append}
+use Rattle.word_model.proofs.Sugars.{job_sugar-append}
 use Rattle.pair_strategy.specs.Queues.{JobQueue, keyed_cmp, jobs_in, with_item, HasKey, SameJobs}
 use Rattle.pair_strategy.specs.declared.keys.Keyed.{Keyed}
 use Rattle.commit_core.specs.Named.{IsNamed}
@@ -191,10 +192,16 @@ key-longer A gens G g (Pair i j) named =
 key-longer A gens G g (Right i v) named =
     ap (λ f. plus (leading_monomial f) (variable A.order.vars v)) (element-append G (g ∷ []) i named.0.0 named.0.1)
 
-pub keys-longer : (A : Algebra) (gens G : List Polynomial) (g : Polynomial) (items : List Keyed) → Each (IsNamed A gens G) (jobs_in items)
-    → Each (HasKey A gens G) items → Each (HasKey A gens (G ++ g ∷ [])) items
-keys-longer A gens G g [] named keys = tt
-keys-longer A gens G g (k ∷ items) named keys = (keys.0 ∙ sym (key-longer A gens G g k.job named.0), keys-longer A gens G g items named.1 keys.1)
+pub keys-longer : (A : Algebra) (gens G : List Polynomial) (sugars : List ℕ) (g : Polynomial) (n : ℕ) (items : List Keyed) → length sugars ≡ length G
+    → Each (IsNamed A gens G) (jobs_in items) → Each (HasKey A gens G sugars) items → Each (HasKey A gens (G ++ g ∷ []) (sugars ++ n ∷ [])) items
+keys-longer A gens G sugars g n [] count named keys = tt
+keys-longer A gens G sugars g n (k ∷ items) count named keys = (
+  (
+    keys.0.0 ∙ sym (job_sugar-append gens G sugars g n A.order.vars k.job count named.0.0),
+    keys.0.1 ∙ sym (key-longer A gens G g k.job named.0),
+  ),
+  keys-longer A gens G sugars g n items count named.1 keys.1,
+)
 
 -- what holds of a list holds without its first
 pub Each-rest : {X : Type 0} (P : X → Type 0) (xs : List X) → Each P xs → Each P (drop 1 xs)

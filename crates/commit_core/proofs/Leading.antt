@@ -1,15 +1,16 @@
 -- A lead and the machine: the turn of each state that a lead is at, and where the lead is after it.
-use Rattle.std.proofs.Common.{◌≡◌, ◌≢◌, ℕ, suc, ◌+◌, ◌<◌, ◌≤◌, nat_le, ◌||◌, ◌&&◌, ◌==◌, ◌⊎◌, inl, inr, Bool, true, false, List, [], ◌∷◌, ◌++◌, length, map, drop, Option, Some, None, IfSome, Ok, if◌then◌else◌, refl, sym, ap, ◌∙◌, subst, arith, length-append}
+use Rattle.std.proofs.Common.{◌≡◌, ◌≢◌, ℕ, zero, suc, ◌+◌, ◌*◌, ◌<◌, ◌≤◌, nat_le, ◌||◌, ◌&&◌, ◌==◌, ◌⊎◌, inl, inr, Bool, true, false, List, [], ◌∷◌, ◌++◌, length, map, drop, Option, Some, None, IfSome, Ok, if◌then◌else◌, refl, sym, ap, ◌∙◌, subst, arith, length-append}
 use Rattle.std.proofs.lemmas.Bool.Decides.{nat_tests}
 use Rattle.prime_field.specs.Modular.{inverse}
-use Rattle.monomials.specs.Polynomials.{Polynomial, Each, IsPolynomial, poly_scale}
-use Rattle.monomials.specs.Monomials.{Monomial}
+use Rattle.monomials.specs.Polynomials.{Polynomial, Each, IsPolynomial, poly_degree, poly_scale}
+use Rattle.monomials.proofs.Keys.{Each-weaker}
+use Rattle.monomials.specs.Monomials.{Monomial, degree}
 use Rattle.monomials.specs.Orders.{RowOrder}
 use Rattle.monomials.specs.Leading.{leading_coefficient}
 use Rattle.word_model.specs.Words.{Algebra}
 use Rattle.word_model.specs.Conditions.{IsGAlgebra}
-use Rattle.word_model.specs.Reduction.{Reduced as Reduction, reduce}
-use Rattle.word_model.specs.Jobs.{same_job, is_queued, without, least_job, start_of, chain_witness}
+use Rattle.word_model.specs.Reduction.{Reduced as Reduction, element, is_within, Target, leading_target, step_by, less_step, Next, Ends, Undefined as Stops, Goes, next_step, after_step, steps_within, enough_steps, reduce}
+use Rattle.word_model.specs.Jobs.{same_job, is_queued, without, job_sugar, element_sugar, least_job, start_of, chain_witness, AreSugars, UsesElements}
 use Rattle.word_model.specs.Machine.{State, Turn, On, Over, step, turn_of_job, turn_of_start, turn_of_rest, with_entry, with_element, jobs_of, most_elements, seeds_from, first_state, IsElement, IsState}
 use Rattle.word_model.specs.declared.records.Job.{Job}
 use Rattle.word_model.specs.declared.records.Job.TheVariants.{Seed, Pair, Right}
@@ -18,13 +19,19 @@ use Rattle.word_model.specs.declared.records.Entry.{Entry}
 use Rattle.word_model.specs.declared.records.Entry.TheVariants.{Skipped, Zero, New}
 use Rattle.word_model.specs.declared.records.Outcome.{Outcome}
 use Rattle.word_model.specs.declared.records.Outcome.TheVariants.{Finished, BudgetSpent, BasisFull, DegreeOver}
+use Rattle.word_model.proofs.JobLists.{same_job-is, same_job-itself}
+use Rattle.word_model.specs.declared.records.TraceStep.{TraceStep}
 use Rattle.word_model.proofs.Steps.{first_state-is, step-keeps}
+use Rattle.word_model.specs.Products.{degree_limit}
+use Rattle.word_model.proofs.Targets.{IsPicked, leading_target-falls}
+use Rattle.word_model.proofs.Reductions.{next_step-goes}
+use Rattle.std.proofs.lemmas.Bool.{leb-true}
 use Rattle.pair_strategy.specs.Queues.{JobQueue, jobs_in, IsRising, IsQueue, IsSet, HasKey, SameJobs}
 use Rattle.pair_strategy.specs.declared.keys.Keyed.{Keyed}
 use Rattle.left_reduce.specs.Reductions.{GoneOn, behind_steps, ended_of, ends_at}
 use Rattle.left_reduce.specs.declared.reducing.Ended.{Ended}
 use Rattle.left_reduce.specs.declared.reducing.Ended.TheVariants.{Zero as Nothing, Irreducible, DegreeOver as Undefined}
-use Rattle.commit_core.specs.Leads.{Run, IsLead, IsAt, IsCommit, run_step, keyed}
+use Rattle.commit_core.specs.Leads.{Run, IsLead, IsAt, IsCommit, AreLow, run_step, keyed}
 use Rattle.commit_core.specs.Named.{IsNamed}
 use Rattle.commit_core.specs.Kept.{Turns, IsKeptRun, is_over, reduction_of}
 use Rattle.commit_core.specs.declared.lead.Committed.TheVariants.{Added}
@@ -32,35 +39,6 @@ use Rattle.commit_core.proofs.Bringing.{queued-append, Each-rest}
 use Rattle.commit_core.proofs.Turning.{step-finished, step-spent, step-job, with_element-is}
 
 -- ---- sets of jobs
-
-same_job-is : (a b : Job) → same_job a b ≡ true → a ≡ b
-same_job-is (Seed s) (Seed t) e = let same : s ≡ t = grind (arith, nat_tests) in ap Seed same
-same_job-is (Pair i j) (Pair k l) e = let both : (i ≡ k) × (j ≡ l) = parts (i == k) (j == l) refl refl e in cc
-  where
-    parts : (a b : Bool) → (i == k) ≡ a → (j == l) ≡ b → (a && b) ≡ true → (i ≡ k) × (j ≡ l)
-    parts true true f g h = (grind (arith, nat_tests), grind (arith, nat_tests))
-    parts true false f g h = cc
-    parts false b f g h = cc
-same_job-is (Right i v) (Right k w) e = let both : (i ≡ k) × (v ≡ w) = parts (i == k) (v == w) refl refl e in cc
-  where
-    parts : (a b : Bool) → (i == k) ≡ a → (v == w) ≡ b → (a && b) ≡ true → (i ≡ k) × (v ≡ w)
-    parts true true f g h = (grind (arith, nat_tests), grind (arith, nat_tests))
-    parts true false f g h = cc
-    parts false b f g h = cc
-same_job-is (Seed s) (Pair k l) e = cc
-same_job-is (Seed s) (Right k w) e = cc
-same_job-is (Pair i j) (Seed t) e = cc
-same_job-is (Pair i j) (Right k w) e = cc
-same_job-is (Right i v) (Seed t) e = cc
-same_job-is (Right i v) (Pair k l) e = cc
-
-equal : (a : ℕ) → (a == a) ≡ true
-equal a = grind (arith, nat_tests)
-
-same_job-itself : (job : Job) → same_job job job ≡ true
-same_job-itself (Seed s) = equal s
-same_job-itself (Pair i j) = rw (equal i) (equal j)
-same_job-itself (Right i v) = rw (equal i) (equal v)
 
 queued-first : (job : Job) (jobs : List Job) → is_queued (job ∷ jobs) job ≡ true
 queued-first job jobs = rw (same_job-itself job) refl
@@ -119,13 +97,13 @@ module _ (run : Run) where
 
   -- the first job's turn, with its witness
   pub turn-job : (job : Job) (rest : List Job) → run.jobs ≡ job ∷ rest → length run.entries < run.budget
-      → ((s : State) (a : Job) (queue : List Job) → IsAt run s → s.queue ≡ a ∷ queue → least_job run.algebra run.generators run.basis a queue ≡ job)
+      → ((s : State) (a : Job) (queue : List Job) → IsAt run s → s.queue ≡ a ∷ queue → least_job run.algebra run.generators run.basis run.sugars a queue ≡ job)
       → ((G : List Polynomial) (jobs others : List Job) (job : Job) → SameJobs jobs others → chain_witness G jobs job ≡ chain_witness G others job)
       → Turns run (λ s. turn_of_job run.algebra run.generators run.mode s job (chain_witness run.basis run.jobs job))
   turn-job job rest e room least witness s at =
       let some = some_jobs s.queue job rest (subst (SameJobs s.queue) e at.jobs) in
-      let is : least_job run.algebra run.generators s.basis some.0 some.1 ≡ job =
-      subst (λ (G : List Polynomial). least_job run.algebra run.generators G some.0 some.1 ≡ job) (sym at.basis) (least s some.0 some.1 at some.2) in
+      let is : least_job run.algebra run.generators s.basis s.sugars some.0 some.1 ≡ job =
+      (λ t. least_job run.algebra run.generators (at.basis t) (at.sugars t) some.0 some.1) ∙ least s some.0 some.1 at some.2 in
       let found : chain_witness s.basis s.queue job ≡ chain_witness run.basis run.jobs job =
       witness s.basis s.queue run.jobs job at.jobs ∙ ap (λ (G : List Polynomial). chain_witness G run.jobs job) at.basis in
       step-job run.algebra run.generators run.mode run.budget s some.0 some.1 some.2 (omega (arith, ap length at.entries))
@@ -139,22 +117,28 @@ module _ (run : Run) where
   turn-by job found e turn s at = turn s at ∙ ap (turn_of_job run.algebra run.generators run.mode s job) (sym e)
 
 -- the state with a new element
-abbrev pub admits : Mode → ℕ → Job → Entry → Polynomial → State → State
-admits mode n job entry element s = record {
+abbrev pub admits : Mode → ℕ → Job → Entry → Polynomial → ℕ → State → State
+admits mode n job entry element sugar s = record {
   entries = s.entries ++ entry ∷ [];
   basis = s.basis ++ element ∷ [];
+  sugars = s.sugars ++ sugar ∷ [];
   queue = without job s.queue ++ jobs_of mode n (suc (length s.basis));
 }
 
 module _ (run : Run) (job : Job) (r : Reduction)
-    (turn : Turns run (λ s. if nat_le most_elements (length s.basis) then Over BasisFull else On (with_element run.algebra run.mode s job r))) where
-  pub turn-element : (scale : ℕ) (element : Polynomial) → length run.basis < 2048 → scale ≡ inverse run.algebra.p (leading_coefficient r.rest)
-      → element ≡ poly_scale run.algebra.p scale r.rest → Turns run (λ s. On (admits run.mode run.algebra.order.vars job (New job r.trace scale) element s))
-  turn-element scale element room is monic s at =
+    (turn : Turns run (λ s. if nat_le most_elements (length s.basis) then Over BasisFull else On (with_element run.algebra run.generators run.mode s job r))) where
+  pub turn-element : (scale : ℕ) (element : Polynomial) (sugar : ℕ) → length run.basis < 2048 → scale ≡ inverse run.algebra.p (leading_coefficient r.rest)
+      → element ≡ poly_scale run.algebra.p scale r.rest → sugar ≡ element_sugar run.sugars (job_sugar run.generators run.basis run.sugars job) r.trace
+      → Turns run (λ s. On (admits run.mode run.algebra.order.vars job (New job r.trace scale) element sugar s))
+  turn-element scale element sugar room is monic sweet s at =
       let t : nat_le most_elements (length s.basis) ≡ false = grind (arith, nat_tests, ap length at.basis) in
+      let here : sugar ≡ element_sugar s.sugars (job_sugar run.generators s.basis s.sugars job) r.trace =
+      sweet ∙ sym (λ t. element_sugar (at.sugars t) (job_sugar run.generators (at.basis t) (at.sugars t) job) r.trace) in
       turn s at
       ∙ rw t refl
-      ∙ ap On (with_element-is run.algebra run.mode s job r scale _ _ _ is refl (ap (λ g. s.basis ++ g ∷ []) monic) refl)
+      ∙ ap On
+      (with_element-is run.algebra run.generators run.mode s job r scale (s.basis ++ element ∷ []) (s.sugars ++ sugar ∷ []) is (ap (λ g. s.basis ++ g ∷ []) monic)
+      (ap (λ n. s.sugars ++ n ∷ []) here))
 
 -- ---- where the lead is after a turn
 
@@ -167,17 +151,19 @@ run_at A gens mode budget o s = record {
   budget = budget;
   entries = s.entries;
   basis = s.basis;
+  sugars = s.sugars;
   jobs = s.queue;
   outcome = o;
 }
 
 module _ (A : Algebra) (gens : List Polynomial) (mode : Mode) (budget : ℕ) (o : Option Outcome) (s t : State) (q : JobQueue) (queue : s.queue ≡ jobs_in q.items)
     (set : IsSet (jobs_in q.items)) (job : Job) (rest : List Job) (first : s.queue ≡ job ∷ rest) (taking : Taking) (entry : Entry) (entries : t.entries ≡ s.entries ++ entry ∷ []) where
-  admitted-at : (x : State) (element : Polynomial) → t.basis ≡ s.basis ++ element ∷ [] → SameJobs (jobs_in (drop 1 q.items) ++ jobs_of mode A.order.vars (length t.basis)) t.queue
-      → IsAt (run_at A gens mode budget o s) x → IsAt (run_at A gens mode budget o t) (admits mode A.order.vars job entry element x)
-  admitted-at x element basis more at = record {
+  admitted-at : (x : State) (element : Polynomial) (sugar : ℕ) → t.basis ≡ s.basis ++ element ∷ [] → t.sugars ≡ s.sugars ++ sugar ∷ [] → SameJobs (jobs_in (drop 1 q.items) ++ jobs_of mode A.order.vars (length t.basis)) t.queue
+      → IsAt (run_at A gens mode budget o s) x → IsAt (run_at A gens mode budget o t) (admits mode A.order.vars job entry element sugar x)
+  admitted-at x element sugar basis sugars more at = record {
     entries = ap (λ e. e ++ entry ∷ []) at.entries ∙ sym entries;
     basis = grown;
+    sugars = ap (λ n. n ++ sugar ∷ []) at.sugars ∙ sym sugars;
     jobs = λ other. (
         queued-append (without job x.queue) (jobs_of mode A.order.vars (suc (length x.basis))) other
         ∙ ap (λ b. b || is_queued (jobs_of mode A.order.vars (suc (length x.basis))) other) (left other)
@@ -196,24 +182,24 @@ module _ (A : Algebra) (gens : List Polynomial) (mode : Mode) (budget : ℕ) (o 
       left : SameJobs (without job x.queue) (jobs_in (drop 1 q.items))
       left = left_jobs taking q.items x.queue rest job set (subst (SameJobs x.queue) queue at.jobs) (sym queue ∙ first)
 
-  pub admitted : (element : Polynomial) → t.basis ≡ s.basis ++ element ∷ [] → SameJobs (jobs_in (drop 1 q.items) ++ jobs_of mode A.order.vars (length t.basis)) t.queue
-      → Turns (run_at A gens mode budget o s) (λ x. On (admits mode A.order.vars job entry element x))
+  pub admitted : (element : Polynomial) (sugar : ℕ) → t.basis ≡ s.basis ++ element ∷ [] → t.sugars ≡ s.sugars ++ sugar ∷ [] → SameJobs (jobs_in (drop 1 q.items) ++ jobs_of mode A.order.vars (length t.basis)) t.queue
+      → Turns (run_at A gens mode budget o s) (λ x. On (admits mode A.order.vars job entry element sugar x))
       → IsCommit (run_at A gens mode budget o s) (run_at A gens mode budget o t) (Ok Added)
-  admitted element basis more turn = (
+  admitted element sugar basis sugars more turn = (
     record { algebra = refl; generators = refl; mode = refl; budget = refl },
     refl,
-    λ x at. (admits mode A.order.vars job entry element x, turn x at, admitted-at x element basis more at),
+    λ x at. (admits mode A.order.vars job entry element sugar x, turn x at, admitted-at x element sugar basis sugars more at),
   )
 
 -- a run is at its own state
 pub at_itself : (A : Algebra) (gens : List Polynomial) (mode : Mode) (budget : ℕ) (o : Option Outcome) (s : State) → IsAt (run_at A gens mode budget o s) s
-at_itself A gens mode budget o s = record { entries = refl; basis = refl; jobs = λ job. refl }
+at_itself A gens mode budget o s = record { entries = refl; basis = refl; sugars = refl; jobs = λ job. refl }
 
 -- after a commit that goes on the lead is one
 pub lead-on : (A : Algebra) (gens : List Polynomial) (mode : Mode) (budget : ℕ) (o : Option Outcome) (s t : State) (q new : JobQueue) → IsGAlgebra A → o ≡ None
     → IsKeptRun (run_at A gens mode budget o s) q → IsCommit (run_at A gens mode budget o s) (run_at A gens mode budget o t) (Ok Added)
-    → new.order ≡ q.order → t.queue ≡ jobs_in new.items → Each (HasKey A gens t.basis) new.items → IsKeptRun (run_at A gens mode budget o t) new
-lead-on A gens mode budget o s t q new ok going lead commit order queue keys =
+    → new.order ≡ q.order → t.queue ≡ jobs_in new.items → Each (HasKey A gens t.basis t.sugars) new.items → AreLow 1 t.sugars → IsKeptRun (run_at A gens mode budget o t) new
+lead-on A gens mode budget o s t q new ok going lead commit order queue keys low =
     let next = commit.2 s (at_itself A gens mode budget o s) in
     let is : IsState A gens next.0 = step-keeps A ok gens lead.sorted mode budget s next.0 lead.state next.1 in
     record {
@@ -223,6 +209,7 @@ lead-on A gens mode budget o s t q new ok going lead commit order queue keys =
       order = order ∙ lead.order;
       jobs = queue;
       keys = keys;
+      low = low;
       over = subst (λ (x : Option Outcome). IfSome x (λ outcome. Turns (run_at A gens mode budget o t) (λ y. Over outcome))) (sym going) tt;
     }
   where
@@ -230,6 +217,7 @@ lead-on A gens mode budget o s t q new ok going lead commit order queue keys =
     state_same x at is = record {
       elements = subst (Each (IsElement A)) at.basis is.elements;
       few = omega (arith, ap length at.basis, is.few);
+      sugars = subst (λ (G : List Polynomial). AreSugars G t.sugars) at.basis (subst (AreSugars x.basis) at.sugars is.sugars);
       jobs = subst (λ (G : List Polynomial). Each (IsNamed A gens G) t.queue) at.basis (Each-same (IsNamed A gens x.basis) x.queue t.queue at.jobs is.jobs);
     }
 
@@ -243,14 +231,15 @@ lead-ends A gens mode budget o s q outcome lead turn = record {
   order = lead.order;
   jobs = lead.jobs;
   keys = lead.keys;
-  over = λ x at. turn x (record { entries = at.entries; basis = at.basis; jobs = at.jobs });
+  low = lead.low;
+  over = λ x at. turn x (record { entries = at.entries; basis = at.basis; sugars = at.sugars; jobs = at.jobs });
 }
 
 -- a lead at the first state
 pub lead-first : (A alg : Algebra) (gens given : List Polynomial) (mode : Mode) (budget : ℕ) (s : State) (q : JobQueue) → A ≡ alg → gens ≡ given → IsGAlgebra alg
-    → Each (IsPolynomial alg.p alg.order) given → length given ≤ 4096 → s.basis ≡ [] → SameJobs (seeds_from 1 given) s.queue
-    → q.order ≡ alg.order → s.queue ≡ jobs_in q.items → Each (HasKey alg given []) q.items → IsKeptRun (run_at A gens mode budget None s) q
-lead-first A alg gens given mode budget s q made copied ok sorted few empty seeds order queue keys =
+    → Each (IsPolynomial alg.p alg.order) given → length given ≤ 4096 → s.basis ≡ [] → s.sugars ≡ [] → SameJobs (seeds_from 1 given) s.queue
+    → q.order ≡ alg.order → s.queue ≡ jobs_in q.items → Each (HasKey alg given [] []) q.items → IsKeptRun (run_at A gens mode budget None s) q
+lead-first A alg gens given mode budget s q made copied ok sorted few empty none seeds order queue keys =
     subst (λ (x : Algebra). IsKeptRun (run_at x gens mode budget None s) q) (sym made) (
     subst (λ (x : List Polynomial). IsKeptRun (run_at alg x mode budget None s) q) (sym copied) record {
       sorted = sorted;
@@ -258,11 +247,13 @@ lead-first A alg gens given mode budget s q made copied ok sorted few empty seed
       state = record {
         elements = subst (Each (IsElement alg)) (sym empty) first.elements;
         few = omega (arith, ap length empty);
+        sugars = subst (λ (G : List Polynomial). AreSugars G s.sugars) (sym empty) (subst (AreSugars []) (sym none) tt);
         jobs = subst (λ (G : List Polynomial). Each (IsNamed alg given G) s.queue) (sym empty) (Each-same (IsNamed alg given []) (seeds_from 1 given) s.queue seeds first.jobs);
       };
       order = order;
       jobs = queue;
-      keys = subst (λ (G : List Polynomial). Each (HasKey alg given G) q.items) (sym empty) keys;
+      keys = subst (λ (G : List Polynomial). Each (HasKey alg given G s.sugars) q.items) (sym empty) (subst (λ (n : List ℕ). Each (HasKey alg given [] n) q.items) (sym none) keys);
+      low = subst (AreLow 1) (sym none) tt;
       over = tt;
     }
     )
@@ -274,27 +265,29 @@ lead-first A alg gens given mode budget s q made copied ok sorted few empty seed
 
 -- the law of a queue's first job: it is the least of any list of the same jobs
 abbrev pub Leading : Type 0
-Leading = (A : Algebra) (gens G : List Polynomial) (first : Keyed) (rest : List Keyed) (job : Job) (jobs : List Job)
-    → IsRising A.order (first ∷ rest) → Each (HasKey A gens G) (first ∷ rest) → SameJobs (job ∷ jobs) (jobs_in (first ∷ rest)) → least_job A gens G job jobs ≡ first.job
+Leading = (A : Algebra) (gens G : List Polynomial) (sugars : List ℕ) (first : Keyed) (rest : List Keyed) (job : Job) (jobs : List Job)
+    → IsRising A.order (first ∷ rest) → Each (HasKey A gens G sugars) (first ∷ rest) → SameJobs (job ∷ jobs) (jobs_in (first ∷ rest)) → least_job A gens G sugars job jobs ≡ first.job
 
 pub first-least : Leading → (run : Run) (q : JobQueue) (k : Keyed) (rest : List Keyed) → IsKeptRun run q → IsQueue q → q.items ≡ k ∷ rest
-    → (s : State) (a : Job) (queue : List Job) → IsAt run s → s.queue ≡ a ∷ queue → least_job run.algebra run.generators run.basis a queue ≡ k.job
+    → (s : State) (a : Job) (queue : List Job) → IsAt run s → s.queue ≡ a ∷ queue → least_job run.algebra run.generators run.basis run.sugars a queue ≡ k.job
 first-least leading run q k rest lead is e s a queue at h =
-    leading run.algebra run.generators run.basis k rest a queue
+    leading run.algebra run.generators run.basis run.sugars k rest a queue
     (subst (IsRising run.algebra.order) e (subst (λ (o : RowOrder). IsRising o q.items) lead.order is.rising))
-    (subst (Each (HasKey run.algebra run.generators run.basis)) e lead.keys)
+    (subst (Each (HasKey run.algebra run.generators run.basis run.sugars)) e lead.keys)
     (subst (λ jobs. SameJobs jobs (jobs_in (k ∷ rest))) h (subst (SameJobs s.queue) (lead.jobs ∙ ap jobs_in e) at.jobs))
 
 -- ---- what every lead has
 
 -- items with their keys are the jobs with theirs
-keyed-jobs : (A : Algebra) (gens G : List Polynomial) (items : List Keyed) → Each (HasKey A gens G) items → map (keyed A gens G) (jobs_in items) ≡ items
-keyed-jobs A gens G [] keys = refl
-keyed-jobs A gens G (k ∷ items) keys =
-    ap (λ first. first ∷ map (keyed A gens G) (jobs_in items)) (ap with_mono (sym keys.0)) ∙ ap (λ rest. k ∷ rest) (keyed-jobs A gens G items keys.1)
+keyed-jobs : (A : Algebra) (gens G : List Polynomial) (sugars : List ℕ) (items : List Keyed) → Each (HasKey A gens G sugars) items
+    → map (keyed A gens G sugars) (jobs_in items) ≡ items
+keyed-jobs A gens G sugars [] keys = refl
+keyed-jobs A gens G sugars (k ∷ items) keys =
+    ap (λ first. first ∷ map (keyed A gens G sugars) (jobs_in items)) (λ t. with_parts (sym keys.0.0 t) (sym keys.0.1 t))
+    ∙ ap (λ rest. k ∷ rest) (keyed-jobs A gens G sugars items keys.1)
   where
-    with_mono : Monomial → Keyed
-    with_mono m = record { mono = m; job = k.job }
+    with_parts : ℕ → Monomial → Keyed
+    with_parts n m = record { sugar = n; mono = m; job = k.job }
 
 pub lead-is : (run : Run) (q : JobQueue) → IsKeptRun run q → IsQueue q → IsLead run
 lead-is run q kept is = record {
@@ -302,13 +295,81 @@ lead-is run q kept is = record {
   few_generators = kept.few;
   elements = kept.state.elements;
   few_elements = kept.state.few;
+  sugars = kept.state.sugars;
+  low_sugars = kept.low;
   jobs = kept.state.jobs;
   set = subst IsSet (sym kept.jobs) is.set;
   rising = subst (IsRising run.algebra.order) (sym same) (subst (λ (o : RowOrder). IsRising o q.items) kept.order is.rising);
 }
   where
-    same : map (keyed run.algebra run.generators run.basis) run.jobs ≡ q.items
-    same = ap (map (keyed run.algebra run.generators run.basis)) kept.jobs ∙ keyed-jobs run.algebra run.generators run.basis q.items kept.keys
+    same : map (keyed run.algebra run.generators run.basis run.sugars) run.jobs ≡ q.items
+    same = ap (map (keyed run.algebra run.generators run.basis run.sugars)) kept.jobs ∙ keyed-jobs run.algebra run.generators run.basis run.sugars q.items kept.keys
+
+-- ---- sugars
+
+-- the sugars of elements up to number m are at most its bound
+pub low-each : (k m : ℕ) (sugars : List ℕ) → AreLow k sugars → k + length sugars ≤ suc m → Each (λ n. n ≤ 4095 + 8190 * m) sugars
+low-each k m [] low few = tt
+low-each k m (n ∷ sugars) low few = (omega (arith, low.0, few), low-each (suc k) m sugars low.1 (omega (arith, few)))
+
+-- and those of a basis are numbers that the calls on keys take
+pub small-each : (sugars : List ℕ) → AreLow 1 sugars → length sugars ≤ 2048 → Each (λ n. n ≤ 33554432) sugars
+small-each sugars low few = Each-weaker _ _ (λ n h. omega (arith, h)) sugars (low-each 1 2048 sugars low (omega (arith, few)))
+
+-- one sugar more
+pub low-append : (k : ℕ) (sugars : List ℕ) (n : ℕ) → AreLow k sugars → n ≤ 4095 + 8190 * (k + length sugars) → AreLow k (sugars ++ n ∷ [])
+low-append k [] n low few = (omega (arith, few), tt)
+low-append k (x ∷ sugars) n low few = (low.0, low-append (suc k) sugars n low.1 (omega (arith, few)))
+
+-- the sugars with that of a new element
+pub admitted-sugars : (A : Algebra) (gens : List Polynomial) (mode : Mode) (budget : ℕ) (o : Option Outcome) (s : State) (q : JobQueue) (job : Job) (entry : Entry) (element : Polynomial) (sugar : ℕ)
+    → IsGAlgebra A → IsKeptRun (run_at A gens mode budget o s) q → Turns (run_at A gens mode budget o s) (λ x. On (admits mode A.order.vars job entry element sugar x))
+    → AreSugars (s.basis ++ element ∷ []) (s.sugars ++ sugar ∷ [])
+admitted-sugars A gens mode budget o s q job entry element sugar ok lead turn =
+    let next : IsState A gens (admits mode A.order.vars job entry element sugar s) =
+    step-keeps A ok gens lead.sorted mode budget s (admits mode A.order.vars job entry element sugar s) lead.state (turn s (at_itself A gens mode budget o s)) in
+    next.sugars
+
+-- MOVE
+module _ (A : Algebra) (G : List Polynomial) where
+  step-uses : (h : Polynomial) (s : TraceStep) (h' : Polynomial) → next_step A G h (leading_target G h) ≡ Goes s h'
+      → (1 ≤ s.index) × (s.index ≤ length G) × (degree s.mono ≤ degree_limit)
+  step-uses h s h' e = by (leading_target G h) refl e
+    where
+      by : (o : Option Target) → leading_target G h ≡ o → next_step A G h o ≡ Goes s h' → (1 ≤ s.index) × (s.index ≤ length G) × (degree s.mono ≤ degree_limit)
+      by None at e = cc
+      by (Some (t, i)) at e =
+          let picked : IsPicked A G (leading_target G) h t i = leading_target-falls A G h t i at in
+          let m : Monomial = (step_by A t i (element G i)).mono in
+          let goes : (is_within m (element G i) ≡ true) × (step_by A t i (element G i) ≡ s) × (less_step A G h (step_by A t i (element G i)) ≡ h') =
+          next_step-goes A G h t i s h' e in
+          let low : degree m + poly_degree (element G i) ≤ degree_limit = leb-true (degree m + poly_degree (element G i)) degree_limit goes.0 in
+          subst (λ (s : TraceStep). (1 ≤ s.index) × (s.index ≤ length G) × (degree s.mono ≤ degree_limit)) goes.1
+          (picked.divisor.low, picked.divisor.high, omega (arith, low))
+
+  steps-use : (k : ℕ) (h : Polynomial) → UsesElements (length G) (steps_within A G (leading_target G) k h).trace
+  unfolding steps_within
+  steps-use zero h = tt
+  steps-use (suc k) h = by (next_step A G h (leading_target G h)) refl (steps-use k)
+    where
+      by : (n : Next) → next_step A G h (leading_target G h) ≡ n → ((h : Polynomial) → UsesElements (length G) (steps_within A G (leading_target G) k h).trace)
+          → UsesElements (length G) (after_step (steps_within A G (leading_target G) k) h n).trace
+      by Ends e ih = tt
+      by Stops e ih = tt
+      by (Goes s h') e ih = (step-uses h s h' e, ih h')
+
+  -- the steps use elements that there are
+  pub reduce-uses : (h : Polynomial) → UsesElements (length G) (reduce A G h).trace
+  unfolding reduce
+  reduce-uses h = steps-use (enough_steps A.order.vars h) h
+-- MOVED
+
+-- the steps by which a start is reduced use elements that there are
+pub uses-elements : (run : Run) (B : Algebra) (G : List Polynomial) (h : Polynomial) (before : List TraceStep) (r : GoneOn) → G ≡ run.basis → before ≡ []
+    → r ≡ behind_steps before (reduce B G h) → UsesElements (length run.basis) r.trace
+uses-elements run B G h before r basis none is =
+    let same : r ≡ behind_steps [] (reduce B run.basis h) = is ∙ (λ t. behind_steps (none t) (reduce B (basis t) h)) in
+    subst (λ (x : GoneOn). UsesElements (length run.basis) x.trace) (sym same) (reduce-uses B run.basis h)
 
 -- a job that is no pair has no witness
 pub no-witness : (G : List Polynomial) (jobs : List Job) (job : Job) → ((s : ℕ) × (job ≡ Seed s)) ⊎ ((i : ℕ) × (v : ℕ) × (job ≡ Right i v)) → None ≡ chain_witness G jobs job

@@ -1,4 +1,3 @@
-mod Queues
 mod Turning
 mod Bringing
 mod Seeding

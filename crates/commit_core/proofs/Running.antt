@@ -45,19 +45,19 @@ run-over run old outcome same turn s at =
     ap (λ (r : State). ends_with r outcome) (sym parts)
     ∙ sym (run-ends run.algebra run.generators run.mode run.budget (run.budget - length s.entries) s outcome (sym (same-step run old s same) ∙ turn s at))
   where
-    parts : ◌≡◌ {A = State} (record { entries = s.entries; basis = s.basis; queue = s.queue }) (record { entries = old.entries; basis = old.basis; queue = s.queue })
-    parts = ap (λ e. record { entries = e; basis = s.basis; queue = s.queue }) at.entries ∙ ap (λ b. record { entries = old.entries; basis = b; queue = s.queue }) at.basis
+    parts : ◌≡◌ {A = State} s (record s { entries = old.entries; basis = old.basis })
+    parts = λ t. record s { entries = at.entries t; basis = at.basis t }
 
 -- a commit that goes on adds an entry, and there were fewer than the budget
 pub commit-adds : (old new : Run) → IsCommit old new (Ok Added) → (length old.entries < old.budget) × (length new.entries ≡ suc (length old.entries))
 commit-adds old new commit =
-    let next = commit.2 (state_of old) (record { entries = refl; basis = refl; jobs = λ job. refl }) in
+    let next = commit.2 (state_of old) (record { entries = refl; basis = refl; sugars = refl; jobs = λ job. refl }) in
     let adds = step-adds old.algebra old.generators old.mode old.budget (state_of old) next.0 next.1 in
     (adds.0, sym (ap length next.2.entries) ∙ adds.1)
 
 -- that from the first state on is the machine's
 pub run-machine : (run : Run) (A : Algebra) (gens : List Polynomial) (mode : Mode) (budget : ℕ)
-    → IsSameRun (record { algebra = A; generators = gens; mode = mode; budget = budget; entries = run.entries; basis = run.basis; jobs = run.jobs; outcome = run.outcome }) run
+    → IsSameRun (record { algebra = A; generators = gens; mode = mode; budget = budget; entries = run.entries; basis = run.basis; sugars = run.sugars; jobs = run.jobs; outcome = run.outcome }) run
     → IsAt run (first_state gens) → (journal : Journal) → ((s : State) → IsAt run s → journal ≡ run_from run s) → journal ≡ machine A gens mode budget
 run-machine run A gens mode budget same at journal is =
     is (first_state gens) at

@@ -9,8 +9,14 @@ use Rattle.word_model.specs.Machine.{seeds_from}
 use Rattle.word_model.specs.declared.records.Job.{Job}
 use Rattle.word_model.specs.declared.records.Job.TheVariants.{Seed}
 use Rattle.pair_strategy.specs.Queues.{SameJobs}
-use Rattle.commit_core.proofs.Queues.{seeds_from-append}
 use Rattle.commit_core.proofs.Bringing.{queued-append}
+
+-- the seeds of two lists of generators
+pub seeds_from-append : (s : ℕ) (fs gs : List Polynomial) → seeds_from s (fs ++ gs) ≡ seeds_from s fs ++ seeds_from (s + length fs) gs
+seeds_from-append s [] gs = ap (λ i. seeds_from i gs) (omega arith)
+seeds_from-append s ([] ∷ fs) gs = seeds_from-append (suc s) fs gs ∙ ap (λ i. seeds_from (suc s) fs ++ seeds_from i gs) (omega arith)
+seeds_from-append s ((t ∷ f) ∷ fs) gs =
+    ap (λ jobs. Seed s ∷ jobs) (seeds_from-append (suc s) fs gs ∙ ap (λ i. seeds_from (suc s) fs ++ seeds_from i gs) (omega arith))
 
 -- a seed is not among those of generators before
 pub seed-absent : (s t : ℕ) (fs : List Polynomial) → s + length fs ≤ t → is_queued (seeds_from s fs) (Seed t) ≡ false

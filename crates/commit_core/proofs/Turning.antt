@@ -9,7 +9,7 @@ use Rattle.monomials.specs.Polynomials.{Polynomial, poly_scale}
 use Rattle.monomials.specs.Leading.{leading_coefficient}
 use Rattle.word_model.specs.Words.{Algebra}
 use Rattle.word_model.specs.Reduction.{Reduced, reduce}
-use Rattle.word_model.specs.Jobs.{least_job, chain_witness, start_of, without}
+use Rattle.word_model.specs.Jobs.{job_sugar, element_sugar, least_job, chain_witness, start_of, without}
 use Rattle.word_model.specs.Machine.{State, Turn, On, Over, step, turn_of_job, turn_of_start, turn_of_rest, with_entry, with_element, jobs_of, ends_with, first_state, machine, run_within, after_turn, most_elements}
 use Rattle.word_model.specs.declared.records.Job.{Job}
 use Rattle.word_model.specs.declared.records.Mode.{Mode}
@@ -17,7 +17,6 @@ use Rattle.word_model.specs.declared.records.Entry.{Entry}
 use Rattle.word_model.specs.declared.records.Entry.TheVariants.{Skipped, Zero, New}
 use Rattle.word_model.specs.declared.records.Outcome.{Outcome}
 use Rattle.word_model.specs.declared.records.Outcome.TheVariants.{Finished, BudgetSpent, BasisFull, DegreeOver}
-use Rattle.commit_core.specs.Turns.{IsTurn}
 
 module _ (A : Algebra) (gens : List Polynomial) (mode : Mode) (budget : ℕ) where
   -- without a job the run is finished
@@ -33,58 +32,30 @@ module _ (A : Algebra) (gens : List Polynomial) (mode : Mode) (budget : ℕ) whe
   -- else the least job has its turn
   pub step-job : (s : State) (first : Job) (queue : List Job) → s.queue ≡ first ∷ queue → length s.entries < budget
       → step A gens mode budget s
-      ≡ (let job : Job = least_job A gens s.basis first queue in turn_of_job A gens mode s job (chain_witness s.basis s.queue job))
+      ≡ (let job : Job = least_job A gens s.basis s.sugars first queue in turn_of_job A gens mode s job (chain_witness s.basis s.queue job))
   unfolding step
   step-job s first queue e room = let t : nat_le budget (length s.entries) ≡ false = grind (arith, nat_tests) in rw (e, t) refl
-
-  -- that job is skipped by its witness
-  pub step-skips : (s : State) (first : Job) (queue : List Job) (job : Job) (by : ℕ) → s.queue ≡ first ∷ queue → length s.entries < budget
-      → job ≡ least_job A gens s.basis first queue → Some by ≡ chain_witness s.basis s.queue job
-      → step A gens mode budget s ≡ On (with_entry s job (Skipped job by))
-  step-skips s first queue job by e room is found =
-      step-job s first queue e room
-      ∙ ap (λ j. turn_of_job A gens mode s j (chain_witness s.basis s.queue j)) (sym is)
-      ∙ ap (turn_of_job A gens mode s job) (sym found)
-
-  -- or its start is reduced
-  pub step-reduces : (s : State) (first : Job) (queue : List Job) (job : Job) → s.queue ≡ first ∷ queue → length s.entries < budget
-      → job ≡ least_job A gens s.basis first queue → None ≡ chain_witness s.basis s.queue job
-      → step A gens mode budget s ≡ turn_of_start A mode s job (start_of A gens s.basis job)
-  step-reduces s first queue job e room is found =
-      step-job s first queue e room
-      ∙ ap (λ j. turn_of_job A gens mode s j (chain_witness s.basis s.queue j)) (sym is)
-      ∙ ap (turn_of_job A gens mode s job) (sym found)
-
--- ---- what a turn says of the answer
-
-pub goes_on : (turn : Turn) (old new : State) (answer : Result (Option Outcome) AllocError) → IsTurn turn old new answer → IfOk answer (λ end. end ≡ None → turn ≡ On new)
-goes_on turn old new (Ok None) is = λ e. is
-goes_on turn old new (Ok (Some outcome)) is = λ e. absurd cc
-goes_on turn old new (Err e) is = tt
-
-pub ends : (turn : Turn) (old new : State) (answer : Result (Option Outcome) AllocError) → IsTurn turn old new answer
-    → IfOk answer (λ end. (outcome : Outcome) → end ≡ Some outcome → (turn ≡ Over outcome) × (new ≡ old))
-ends turn old new (Ok None) is = λ outcome e. absurd cc
-ends turn old new (Ok (Some end)) is = λ outcome e. let same : end ≡ outcome = cc in (is.0 ∙ ap Over same, is.1)
-ends turn old new (Err e) is = tt
 
 -- ---- a new element
 
 -- the state with a new element, from its parts
-pub with_element-is : (A : Algebra) (mode : Mode) (s : State) (job : Job) (r : Reduced) (scale : ℕ) (entries : List Entry) (basis : List Polynomial) (queue : List Job)
+pub with_element-is : (A : Algebra) (gens : List Polynomial) (mode : Mode) (s : State) (job : Job) (r : Reduced) (scale : ℕ) (basis : List Polynomial) (sugars : List ℕ)
     → scale ≡ inverse A.p (leading_coefficient r.rest)
-    → entries ≡ s.entries ++ New job r.trace scale ∷ []
     → basis ≡ s.basis ++ poly_scale A.p scale r.rest ∷ []
-    → queue ≡ without job s.queue ++ jobs_of mode A.order.vars (suc (length s.basis))
-    → with_element A mode s job r ≡ record { entries = entries; basis = basis; queue = queue }
-with_element-is A mode s job r scale entries basis queue is entries_are basis_is queue_is =
-    ap (λ k. made (s.entries ++ New job r.trace k ∷ []) (s.basis ++ poly_scale A.p k r.rest ∷ []) (without job s.queue ++ jobs_of mode A.order.vars (suc (length s.basis)))) (sym is)
-    ∙ ap (λ e. made e (s.basis ++ poly_scale A.p scale r.rest ∷ []) (without job s.queue ++ jobs_of mode A.order.vars (suc (length s.basis)))) (sym entries_are)
-    ∙ ap (λ b. made entries b (without job s.queue ++ jobs_of mode A.order.vars (suc (length s.basis)))) (sym basis_is)
-    ∙ ap (made entries basis) (sym queue_is)
+    → sugars ≡ s.sugars ++ element_sugar s.sugars (job_sugar gens s.basis s.sugars job) r.trace ∷ []
+    → with_element A gens mode s job r ≡ record {
+      entries = s.entries ++ New job r.trace scale ∷ [];
+      basis = basis;
+      sugars = sugars;
+      queue = without job s.queue ++ jobs_of mode A.order.vars (suc (length s.basis));
+    }
+with_element-is A gens mode s job r scale basis sugars is basis_is sugars_are =
+    ap (λ k. made k (s.basis ++ poly_scale A.p k r.rest ∷ []) (s.sugars ++ element_sugar s.sugars (job_sugar gens s.basis s.sugars job) r.trace ∷ [])) (sym is)
+    ∙ ap (λ b. made scale b (s.sugars ++ element_sugar s.sugars (job_sugar gens s.basis s.sugars job) r.trace ∷ [])) (sym basis_is)
+    ∙ ap (made scale basis) (sym sugars_are)
   where
-    made : List Entry → List Polynomial → List Job → State
-    made e b q = record { entries = e; basis = b; queue = q }
+    made : ℕ → List Polynomial → List ℕ → State
+    made k b n = record { entries = s.entries ++ New job r.trace k ∷ []; basis = b; sugars = n; queue = without job s.queue ++ jobs_of mode A.order.vars (suc (length s.basis)) }
 
 -- ---- runs
 
@@ -100,24 +71,24 @@ step-adds A gens mode budget s s' e = by_queue s.queue refl e
     entered : (job : Job) (entry : Entry) → Adds (On (with_entry s job entry))
     entered job entry t' e = let same : with_entry s job entry ≡ t' = cc in ap (λ t. length t.entries) (sym same) ∙ length-append s.entries (entry ∷ []) ∙ omega arith
 
-    of_rest : (job : Job) (r : Reduced) → Adds (turn_of_rest A mode s job r)
+    of_rest : (job : Job) (r : Reduced) → Adds (turn_of_rest A gens mode s job r)
     of_rest job r = by r.over r.rest
       where
         by : (over : Bool) (rest : Polynomial) → Adds (if over then Over DegreeOver else elim rest [
           | [] ↦ On (with_entry s job (Zero job r.trace))
-          | t ∷ f ↦ if nat_le most_elements (length s.basis) then Over BasisFull else On (with_element A mode s job r)
+          | t ∷ f ↦ if nat_le most_elements (length s.basis) then Over BasisFull else On (with_element A gens mode s job r)
         ])
         by true rest t' e = absurd cc
         by false [] t' e = entered job (Zero job r.trace) t' e
         by false (t ∷ f) t' e = full (nat_le most_elements (length s.basis)) t' e
           where
-            full : (b : Bool) → Adds (if b then Over BasisFull else On (with_element A mode s job r))
+            full : (b : Bool) → Adds (if b then Over BasisFull else On (with_element A gens mode s job r))
             full true t' e = absurd cc
             full false t' e =
-                let same : with_element A mode s job r ≡ t' = cc in
+                let same : with_element A gens mode s job r ≡ t' = cc in
                 ap (λ t. length t.entries) (sym same) ∙ length-append s.entries (New job r.trace (inverse A.p (leading_coefficient r.rest)) ∷ []) ∙ omega arith
 
-    of_start : (job : Job) (start : Option Polynomial) → Adds (turn_of_start A mode s job start)
+    of_start : (job : Job) (start : Option Polynomial) → Adds (turn_of_start A gens mode s job start)
     of_start job None t' e = absurd cc
     of_start job (Some h) t' e = of_rest job (reduce A s.basis h) t' e
 
@@ -126,17 +97,17 @@ step-adds A gens mode budget s s' e = by_queue s.queue refl e
     of_job job None = of_start job (start_of A gens s.basis job)
 
     by_budget : (first : Job) (queue : List Job) (spent : Bool) → nat_le budget (length s.entries) ≡ spent
-        → (if spent then Over BudgetSpent else (let job : Job = least_job A gens s.basis first queue in turn_of_job A gens mode s job (chain_witness s.basis s.queue job))) ≡ On s'
+        → (if spent then Over BudgetSpent else (let job : Job = least_job A gens s.basis s.sugars first queue in turn_of_job A gens mode s job (chain_witness s.basis s.queue job))) ≡ On s'
         → (length s.entries < budget) × (length s'.entries ≡ suc (length s.entries))
     by_budget first queue true t e = absurd cc
     by_budget first queue false t e =
-        (grind (arith, nat_tests), of_job (least_job A gens s.basis first queue) (chain_witness s.basis s.queue (least_job A gens s.basis first queue)) s' e)
+        (grind (arith, nat_tests), of_job (least_job A gens s.basis s.sugars first queue) (chain_witness s.basis s.queue (least_job A gens s.basis s.sugars first queue)) s' e)
 
     by_queue : (queue : List Job) → s.queue ≡ queue → (elim queue [
       | [] ↦ Over Finished
       | first ∷ queue ↦
           if nat_le budget (length s.entries) then Over BudgetSpent
-          else (let job : Job = least_job A gens s.basis first queue in turn_of_job A gens mode s job (chain_witness s.basis s.queue job))
+          else (let job : Job = least_job A gens s.basis s.sugars first queue in turn_of_job A gens mode s job (chain_witness s.basis s.queue job))
     ]) ≡ On s' → (length s.entries < budget) × (length s'.entries ≡ suc (length s.entries))
     by_queue [] q e = absurd cc
     by_queue (first ∷ queue) q e = by_budget first queue (nat_le budget (length s.entries)) refl e

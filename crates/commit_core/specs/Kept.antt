@@ -7,26 +7,28 @@ use Rattle.pair_strategy.specs.Queues.{JobQueue, jobs_in, HasKey}
 use Rattle.left_reduce.specs.Reductions.{GoneOn}
 use Rattle.left_reduce.specs.declared.reducing.Ended.{Ended}
 use Rattle.left_reduce.specs.declared.reducing.Ended.TheVariants.{Zero, Irreducible, DegreeOver}
-use Rattle.commit_core.specs.Leads.{Run, IsAt, run_step}
+use Rattle.commit_core.specs.Leads.{Run, IsAt, AreLow, run_step}
 use Rattle.commit_core.specs.declared.lead.Lead.TheInside.{Inside}
 
 -- the run as a state of the machine
 abbrev pub state_of : Run → State
-state_of run = record { entries = run.entries; basis = run.basis; queue = run.jobs }
+state_of run = record { entries = run.entries; basis = run.basis; sugars = run.sugars; queue = run.jobs }
 
 -- at each state that the run is at, the step of the machine is this turn
 abbrev pub Turns : Run → (State → Turn) → Type 0
 Turns run turn = (s : State) → IsAt run s → run_step run s ≡ turn s
 
 -- The generators are polynomials of the algebra, what the run has is a state of the machine, the queue has its jobs with
--- their keys, and a run that is over ends where the machine does. With what every queue has it makes an `IsLead`.
+-- their keys, no sugar is above its bound, and a run that is over ends where the machine does. With what every queue has it
+-- makes an `IsLead`.
 pub record IsKeptRun (run : Run) (queue : JobQueue) : Type 0 where
   pub sorted : Each (IsPolynomial run.algebra.p run.algebra.order) run.generators
   pub few : length run.generators ≤ 4096
   pub state : IsState run.algebra run.generators (state_of run)
   pub order : queue.order ≡ run.algebra.order
   pub jobs : run.jobs ≡ jobs_in queue.items
-  pub keys : Each (HasKey run.algebra run.generators run.basis) queue.items
+  pub keys : Each (HasKey run.algebra run.generators run.basis run.sugars) queue.items
+  pub low : AreLow 1 run.sugars
   pub over : IfSome run.outcome (λ outcome. Turns run (λ s. Over outcome))
 
 -- the run of a lead as code keeps it
@@ -38,6 +40,7 @@ kept_run lead = record {
   budget = lead.budget;
   entries = lead.progress.entries.items;
   basis = lead.progress.basis.items;
+  sugars = lead.progress.sugars.items;
   jobs = jobs_in lead.progress.queue.items;
   outcome = lead.outcome;
 }

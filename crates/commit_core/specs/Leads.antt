@@ -1,10 +1,10 @@
 -- A lead: a run of the machine that one thread goes on with, a step at a time.
-use Rattle.std.specs.Prelude.{◌≡◌, ℕ, ◌+◌, ◌≤◌, ◌++◌, ◌∷◌, [], List, length, map, Option, Some, None, Ok, Err}
+use Rattle.std.specs.Prelude.{◌≡◌, ℕ, suc, ◌+◌, ◌*◌, ◌≤◌, ◌++◌, ◌∷◌, [], List, length, map, Option, Some, None, Ok, Err}
 use Rattle.std.specs.declared.alloc.AllocError.{AllocError}
 use Rattle.std.specs.declared.result.Result.{Result}
 use Rattle.monomials.specs.Polynomials.{Polynomial, Each, IsPolynomial}
 use Rattle.word_model.specs.Words.{Algebra}
-use Rattle.word_model.specs.Jobs.{key_monomial}
+use Rattle.word_model.specs.Jobs.{job_sugar, key_monomial, AreSugars}
 use Rattle.word_model.specs.Machine.{State, Turn, On, Over, step, IsElement, most_elements}
 use Rattle.word_model.specs.declared.records.Job.{Job}
 use Rattle.word_model.specs.declared.records.Mode.{Mode}
@@ -18,7 +18,8 @@ use Rattle.commit_core.specs.Named.{IsNamed}
 use Rattle.commit_core.specs.declared.lead.Committed.{Committed}
 use Rattle.commit_core.specs.declared.lead.Committed.TheVariants.{Added, Over as Ended}
 
--- what a lead runs over, what it did, the jobs that wait, in rising order of their keys, and its outcome where it is over
+-- what a lead runs over, what it did, the sugars of its elements, the jobs that wait, in rising order of their keys, and
+-- its outcome where it is over
 pub record Run : Type 0 where
   pub algebra : Algebra
   pub generators : List Polynomial
@@ -26,29 +27,40 @@ pub record Run : Type 0 where
   pub budget : ℕ
   pub entries : List Entry
   pub basis : List Polynomial
+  pub sugars : List ℕ
   pub jobs : List Job
   pub outcome : Option Outcome
 
--- a job with the monomial of its key
-abbrev pub keyed : Algebra → List Polynomial → List Polynomial → Job → Keyed
-keyed A gens G job = record { mono = key_monomial A gens G job; job = job }
+-- a job with the sugar and the monomial of its key
+abbrev pub keyed : Algebra → List Polynomial → List Polynomial → List ℕ → Job → Keyed
+keyed A gens G sugars job = record { sugar = job_sugar gens G sugars job; mono = key_monomial A gens G job; job = job }
+
+-- sugars of the elements from number k on, of which that of number k is at most 4095 + 8190 k
+abbrev pub AreLow : ℕ → List ℕ → Type 0
+AreLow k [] = Unit {0}
+AreLow k (n ∷ sugars) = (n ≤ 4095 + 8190 * k) × AreLow (suc k) sugars
 
 -- What every lead has. The generators are polynomials of the algebra, at most 4096, and the elements are nonzero
--- polynomials of it, at most as many as a basis may have. Each job that waits names a nonzero generator, or nonzero
--- elements and variables that there are; no job waits twice, and they stand in rising order of their keys.
+-- polynomials of it, at most as many as a basis may have. Each has a sugar, which is at least its degree, and for the
+-- k-th at most 4095 + 8190 k. Each job that waits names a nonzero generator, or nonzero elements and variables that there
+-- are; no job waits twice, and they stand in rising order of their keys.
 pub record IsLead (run : Run) : Type 0 where
   pub generators : Each (IsPolynomial run.algebra.p run.algebra.order) run.generators
   pub few_generators : length run.generators ≤ 4096
   pub elements : Each (IsElement run.algebra) run.basis
   pub few_elements : length run.basis ≤ most_elements
+  pub sugars : AreSugars run.basis run.sugars
+  pub low_sugars : AreLow 1 run.sugars
   pub jobs : Each (IsNamed run.algebra run.generators run.basis) run.jobs
   pub set : IsSet run.jobs
-  pub rising : IsRising run.algebra.order (map (keyed run.algebra run.generators run.basis) run.jobs)
+  pub rising : IsRising run.algebra.order (map (keyed run.algebra run.generators run.basis run.sugars) run.jobs)
 
--- the run is at this state of the machine: its entries, its basis, and the same jobs, in whatever order the state has them
+-- the run is at this state of the machine: its entries, its basis with its sugars, and the same jobs, in whatever order
+-- the state has them
 pub record IsAt (run : Run) (s : State) : Type 0 where
   pub entries : s.entries ≡ run.entries
   pub basis : s.basis ≡ run.basis
+  pub sugars : s.sugars ≡ run.sugars
   pub jobs : SameJobs s.queue run.jobs
 
 -- one step of the machine that the run is of

@@ -1,4 +1,3 @@
 pub mod Named
-pub mod Turns
 pub mod Leads
 pub mod Kept

@@ -1,8 +1,8 @@
 //! The lead: a run of the machine, which one thread goes on with a commit at a time.
 
-ghost use Rattle.std.specs.Prelude.{◌≡◌, ◌≢◌, suc, ◌+◌, ◌<◌, ◌≤◌, ◌++◌, ◌∷◌, [], List, nat_le, if◌then◌else◌, IfOk, IfSome, MatchOption, Ok, Some, None, IsSome, length, take};
+ghost use Rattle.std.specs.Prelude.{◌≡◌, ◌≢◌, suc, ◌+◌, ◌*◌, ◌<◌, ◌≤◌, ◌++◌, ◌∷◌, [], List, nat_le, if◌then◌else◌, IfOk, IfSome, MatchOption, Ok, Some, None, IsSome, length, take};
 ghost use Rattle.monomials.specs.Polynomials.{Each, IsPolynomial};
-ghost use Rattle.word_model.specs.Jobs.{least_job, start_of, chain_witness, without};
+ghost use Rattle.word_model.specs.Jobs.{job_sugar, element_sugar, least_job, start_of, chain_witness, without, UsesElements};
 ghost use Rattle.word_model.specs.Machine.{State, On, Over, IsElement, first_state, with_entry, with_element, jobs_of, turn_of_start, turn_of_rest, most_elements};
 ghost use Rattle.word_model.specs.declared.records.Job.{Job};
 ghost use Rattle.word_model.specs.declared.records.Entry.{Entry};
@@ -20,7 +20,7 @@ use algebra::{Algebra, ProductFault};
 use gpoly::GPoly;
 use gproduct::{Steps, TableSeat};
 use left_reduce::{self, Reduced, reduce_from, start_of};
-use pair_strategy::{self, chain_witness};
+use pair_strategy::{self, chain_witness, element_sugar, job_key};
 use run_records::{Entry, Job, Journal, Mode, Outcome, Spec, Trace};
 use std::alloc::{AllocError, Global};
 use std::marker::Model;
@@ -101,7 +101,7 @@ impl Lead {
             (λ job. (rest : List Job) × (self.now.jobs ≡ job.now ∷ rest)) }
         ensures least { IfSome result (λ job. (s : State) (a : Job) (queue : List Job) → IsAt self.now s →
             s.queue ≡ a ∷ queue →
-            least_job self.now.algebra self.now.generators self.now.basis a queue ≡ job.now) }
+            least_job self.now.algebra self.now.generators self.now.basis self.now.sugars a queue ≡ job.now) }
         ensures facts { IsLead self.now }
     {
         pair_strategy::laws::first_is_least();
@@ -128,6 +128,16 @@ impl Lead {
     {
         self.facts();
         &self.progress.basis
+    }
+
+    /// The sugars of the elements so far, in their order: each is at least its element's degree, and
+    /// the k-th at most 4095 + 8190 k. Takes no memory.
+    pub fn sugars(&self) -> &[u32]
+        ensures value { result.now ≡ self.now.sugars }
+        ensures facts { IsLead self.now }
+    {
+        self.facts();
+        &self.progress.sugars
     }
 
     /// The entries so far. Takes no memory.
@@ -263,7 +273,7 @@ impl Lead {
         requires going { self.old.outcome ≡ None }
         requires first { (rest : List Job) × (self.old.jobs ≡ job ∷ rest) }
         requires turn { Turns self.old (λ s.
-            turn_of_start self.old.algebra self.old.mode s job (start_of self.old.algebra self.old.generators s.basis job)) }
+            turn_of_start self.old.algebra self.old.generators self.old.mode s job (start_of self.old.algebra self.old.generators s.basis job)) }
         ensures step { IsCommit self.old self.new result }
         ensures counted { result ≡ Ok Added → (entry : Entry) →
             self.new.entries ≡ self.old.entries ++ entry ∷ [] → steps.new ≡ steps.old + entry_count entry }
@@ -295,8 +305,9 @@ impl Lead {
         requires first { (rest : List Job) × (self.old.jobs ≡ job ∷ rest) }
         requires sorted { IsPolynomial alg.now.p alg.now.order reduced.rest }
         requires ended { reduced.ended ≡ ended_of (reduction_of reduced) }
+        requires uses { UsesElements (length self.old.basis) reduced.trace }
         requires turn { Turns self.old (λ s.
-            turn_of_rest self.old.algebra self.old.mode s job (reduction_of reduced)) }
+            turn_of_rest self.old.algebra self.old.generators self.old.mode s job (reduction_of reduced)) }
         ensures step { IsCommit self.old self.new result }
         ensures entry { result ≡ Ok Added → (entry : Entry) × (self.new.entries ≡ self.old.entries ++ entry ∷ [])
             × (entry_count entry ≡ start_count job + length reduced.trace) }
@@ -324,8 +335,9 @@ impl Lead {
         requires first { (rest : List Job) × (self.old.jobs ≡ job ∷ rest) }
         requires sorted { IsPolynomial alg.now.p alg.now.order reduced.rest }
         requires nonzero { reduced.rest ≢ [] }
+        requires uses { UsesElements (length self.old.basis) reduced.trace }
         requires turn { Turns self.old (λ s. if nat_le most_elements (length s.basis) then Over BasisFull
-            else On (with_element self.old.algebra self.old.mode s job (reduction_of reduced))) }
+            else On (with_element self.old.algebra self.old.generators self.old.mode s job (reduction_of reduced))) }
         ensures step { IsCommit self.old self.new result }
         ensures entry { result ≡ Ok Added → (entry : Entry) × (self.new.entries ≡ self.old.entries ++ entry ∷ [])
             × (entry_count entry ≡ start_count job + length reduced.trace) }
@@ -335,8 +347,29 @@ impl Lead {
             return Ok(self.end(Outcome::BasisFull));
         }
         let Reduced { trace, rest, .. } = reduced;
+        let sugar = self.sugar_of(&job, &trace);
         let (element, scale) = rest.monic(alloc, alg.field())?;
-        self.admit(alloc, alg, job, Entry::New { job, trace, scale }, element)
+        let entry = Entry::New { job, trace, scale };
+        self.admit(alloc, alg, job, entry, element, sugar)
+    }
+
+    // The sugar of an element that this job brings by these steps.
+    fn sugar_of(&self, job: &Job, trace: &Trace) -> u32
+        requires named { IsNamed self.now.algebra self.now.generators self.now.basis job.now }
+        requires uses { UsesElements (length self.now.basis) trace.now }
+        requires few { length self.now.basis < 2048 }
+        ensures value { result ≡ element_sugar self.now.sugars
+            (job_sugar self.now.generators self.now.basis self.now.sugars job.now) trace.now }
+        ensures low { result ≤ 4095 + 8190 * (length self.now.basis + 1) }
+    {
+        let progress = &self.progress;
+        let key = job_key(
+            &progress.basis,
+            &progress.sugars,
+            &self.generators,
+            job,
+        );
+        element_sugar(&progress.sugars, key.sugar, trace)
     }
 
     // The turn of the first job that leaves with this entry and this element.
@@ -347,15 +380,18 @@ impl Lead {
         job: Job,
         entry: Entry,
         element: GPoly,
+        sugar: u32,
     ) -> Result<Committed, AllocError>
         requires algebra { alg.now ≡ self.old.algebra }
         requires going { self.old.outcome ≡ None }
         requires first { (rest : List Job) × (self.old.jobs ≡ job ∷ rest) }
         requires few { length self.old.basis < 2048 }
         requires element { IsElement self.old.algebra element }
+        requires low { sugar ≤ 4095 + 8190 * (length self.old.basis + 1) }
         requires turn { Turns self.old (λ s. On (record {
           entries = s.entries ++ entry ∷ [];
           basis = s.basis ++ element ∷ [];
+          sugars = s.sugars ++ sugar ∷ [];
           queue = without job s.queue ++ jobs_of self.old.mode self.old.algebra.order.vars (suc (length s.basis));
         })) }
         ensures step { IsCommit self.old self.new result }
@@ -363,8 +399,9 @@ impl Lead {
     {
         pair_strategy::laws::queues_are_sets();
         let _n = alg.n();
+        let gens = &self.generators;
         self.progress
-            .admit(alloc, alg, &self.generators, self.mode, entry, element)?;
+            .admit(alloc, alg, gens, self.mode, entry, element, sugar)?;
         Ok(Committed::Added)
     }
 }

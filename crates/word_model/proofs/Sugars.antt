@@ -228,16 +228,14 @@ element-append G g i low high = at G (i - 1) (omega arith)
     at (f ∷ G) (suc k) h = at G k (omega arith)
 
 -- a job's sugar stays as the basis grows
-pub job_sugar-append : (gens G : List Polynomial) (sugars : List ℕ) (g : Polynomial) (n k : ℕ) (job : Job) → AreSugars G sugars → IsJob (length gens) (length G) k job
+pub job_sugar-append : (gens G : List Polynomial) (sugars : List ℕ) (g : Polynomial) (n k : ℕ) (job : Job) → length sugars ≡ length G → IsJob (length gens) (length G) k job
     → job_sugar gens (G ++ g ∷ []) (sugars ++ n ∷ []) job ≡ job_sugar gens G sugars job
-job_sugar-append gens G sugars g n k (Seed s) are named = refl
-job_sugar-append gens G sugars g n k (Pair i j) are named =
-    let count : length sugars ≡ length G = AreSugars-length G sugars are in
+job_sugar-append gens G sugars g n k (Seed s) count named = refl
+job_sugar-append gens G sugars g n k (Pair i j) count named =
     let gi : element (G ++ g ∷ []) i ≡ element G i = element-append G g i named.0 (omega (arith, named.1, named.2)) in
     let gj : element (G ++ g ∷ []) j ≡ element G j = element-append G g j (omega (arith, named.0, named.1)) named.2 in
     let si : sugar_at (sugars ++ n ∷ []) i ≡ sugar_at sugars i = sugar_at-append sugars n i named.0 (omega (arith, named.1, named.2, count)) in
     let sj : sugar_at (sugars ++ n ∷ []) j ≡ sugar_at sugars j = sugar_at-append sugars n j (omega (arith, named.0, named.1)) (omega (arith, named.2, count)) in
     λ x. degree (lcm (leading_monomial (gi x)) (leading_monomial (gj x))) + max (si x - degree (leading_monomial (gi x))) (sj x - degree (leading_monomial (gj x)))
-job_sugar-append gens G sugars g n k (Right i v) are named =
-    let count : length sugars ≡ length G = AreSugars-length G sugars are in
+job_sugar-append gens G sugars g n k (Right i v) count named =
     ap (λ s. s + 1) (sugar_at-append sugars n i named.0 (omega (arith, named.1, count)))

@@ -1,7 +1,7 @@
 use Rattle.std.proofs.Common.{◌≡◌, length, sym, ap, ◌∙◌, subst}
 use Rattle.monomials.specs.Orders.{RowOrder}
 use Rattle.monomials.specs.Polynomials.{Each}
-use Rattle.word_model.specs.Jobs.{key_monomial}
+use Rattle.word_model.specs.Jobs.{job_sugar, key_monomial}
 use Rattle.pair_strategy.specs.Queues.{HasKey}
 use Rattle.commit_core.proofs.Bringing.{sorted-vars, elements-vars, Each-with_item}
 use Rattle.commit_core.proofs.progress.push_job.Goals as goal
@@ -21,9 +21,11 @@ pub returns-clause-keys : goal.returns-clause-keys
 returns-clause-keys c = λ keys. (
     let A = c.args.alg.now in
     let G = c.args.basis.now.items in
-    let mono = c.job_key.ensures.mono A (elements-vars A G c.requires.elements) in
-    let key : HasKey A c.args.gens.now G c.job_key.result =
-    subst (λ job. c.job_key.result.mono ≡ key_monomial A c.args.gens.now G job) (sym c.job_key.ensures.job) mono in
-    subst (Each (HasKey A c.args.gens.now G)) (sym c.push.ensures.items)
-    (Each-with_item (HasKey A c.args.gens.now G) c.args.queue.now.order c.job_key.result c.args.queue.now.items key keys)
+    let n = c.args.sugars.now in
+    let key : HasKey A c.args.gens.now G n c.job_key.result = (
+      c.job_key.ensures.sugar ∙ ap (job_sugar c.args.gens.now G n) (sym c.job_key.ensures.job),
+      c.job_key.ensures.mono A (elements-vars A G c.requires.elements) ∙ ap (key_monomial A c.args.gens.now G) (sym c.job_key.ensures.job),
+    ) in
+    subst (Each (HasKey A c.args.gens.now G n)) (sym c.push.ensures.items)
+    (Each-with_item (HasKey A c.args.gens.now G n) c.args.queue.now.order c.job_key.result c.args.queue.now.items key keys)
     )

@@ -9,5 +9,5 @@ invariant-loop-v l = record {
   order : l.queue.order ≡ l.initial.queue.order;
   spare : l.queue.spare + (l.v - 1) ≡ l.initial.queue.spare;
   jobs : SameJobs (jobs_in l.initial.queue.items ++ rights_of l.m (l.v - 1)) (jobs_in l.queue.items);
-  keys : Each (HasKey l.alg l.gens l.basis.items) l.initial.queue.items → Each (HasKey l.alg l.gens l.basis.items) l.queue.items;
+  keys : Each (HasKey l.alg l.gens l.basis.items l.sugars) l.initial.queue.items → Each (HasKey l.alg l.gens l.basis.items l.sugars) l.queue.items;
 }

@@ -9,5 +9,5 @@ invariant-loop-place l = record {
   order : l.queue.order ≡ l.initial.queue.order;
   spare : length l.gens ≤ l.queue.spare + l.place;
   jobs : SameJobs (seeds_from 1 (take l.place l.gens)) (jobs_in l.queue.items);
-  keys : Each (HasKey l.alg l.gens []) l.queue.items;
+  keys : Each (HasKey l.alg l.gens [] []) l.queue.items;
 }

@@ -4,6 +4,7 @@ use Rattle.monomials.specs.Polynomials.{Polynomial, IsPolynomial, HasNumbers, po
 use Rattle.monomials.specs.Leading.{leading_coefficient}
 use Rattle.monomials.proofs.Operations.{HasNumbers-polynomial}
 use Rattle.word_model.specs.Words.{Algebra}
+use Rattle.word_model.specs.Jobs.{job_sugar, element_sugar}
 use Rattle.word_model.specs.Machine.{On}
 use Rattle.word_model.specs.declared.records.Entry.TheVariants.{New}
 use Rattle.left_reduce.specs.Reductions.{GoneOn}
@@ -49,5 +50,6 @@ admit-requires-clause-turn c =
     (ap leading_coefficient rest) c.in_ok-element.ensures.scale c.in_ok-element.ensures.in_range in
     let monic : element ≡ poly_scale A.p scale r.rest =
     c.in_ok-element.ensures.value ∙ ap (λ p. poly_scale p scale c.reduced.inside.rest) field ∙ ap (poly_scale A.p scale) rest in
-    subst (λ t. Turns run (λ s. On (admits run.mode A.order.vars c.args.job (New c.args.job t scale) element s))) (sym trace)
-    (turn-element run c.args.job (reduction_of r) c.requires.turn scale element room is monic)
+    let sweet = c.sugar_of-sugar.ensures.value ∙ ap (element_sugar run.sugars (job_sugar run.generators run.basis run.sugars c.args.job)) trace in
+    subst (λ t. Turns run (λ s. On (admits run.mode A.order.vars c.args.job (New c.args.job t scale) element c.sugar_of-sugar.result s))) (sym trace)
+    (turn-element run c.args.job (reduction_of r) c.requires.turn scale element c.sugar_of-sugar.result room is monic sweet)

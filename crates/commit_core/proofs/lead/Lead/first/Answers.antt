@@ -15,7 +15,7 @@ returns-in-Some-clause-value c =
 pub returns-in-Some-clause-least : goal.returns-in-Some-clause-least
 returns-in-Some-clause-least c = λ s a queue at e. (
     let q = c.self.inside.progress.queue in
-    subst (λ (run : Run). least_job run.algebra run.generators run.basis a queue ≡ c.in-Some.item.now.job) c.self.view_is
+    subst (λ (run : Run). least_job run.algebra run.generators run.basis run.sugars a queue ≡ c.in-Some.item.now.job) c.self.view_is
     (first-least c.first_is_least.ensures (kept_run c.self.inside) q c.in-Some.item.now (drop 1 q.items) c.self.invariant c.in-Some.ensures.facts c.in-Some.ensures.first s a queue
     (subst (λ (run : Run). IsAt run s) (sym c.self.view_is) at) e)
     )

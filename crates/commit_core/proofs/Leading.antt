@@ -1,15 +1,15 @@
 -- A lead and the machine: the turn of each state that a lead is at, and where the lead is after it.
-use Rattle.std.proofs.Common.{◌≡◌, ◌≢◌, ℕ, zero, suc, ◌+◌, ◌*◌, ◌<◌, ◌≤◌, nat_le, ◌||◌, ◌&&◌, ◌==◌, ◌⊎◌, inl, inr, Bool, true, false, List, [], ◌∷◌, ◌++◌, length, map, drop, Option, Some, None, IfSome, Ok, if◌then◌else◌, refl, sym, ap, ◌∙◌, subst, arith, length-append}
+use Rattle.std.proofs.Common.{◌≡◌, ◌≢◌, ℕ, suc, ◌+◌, ◌*◌, ◌<◌, ◌≤◌, nat_le, ◌||◌, ◌&&◌, ◌==◌, ◌⊎◌, inl, inr, Bool, true, false, List, [], ◌∷◌, ◌++◌, length, map, drop, Option, Some, None, IfSome, Ok, if◌then◌else◌, refl, sym, ap, ◌∙◌, subst, arith, length-append}
 use Rattle.std.proofs.lemmas.Bool.Decides.{nat_tests}
 use Rattle.prime_field.specs.Modular.{inverse}
-use Rattle.monomials.specs.Polynomials.{Polynomial, Each, IsPolynomial, poly_degree, poly_scale}
+use Rattle.monomials.specs.Polynomials.{Polynomial, Each, IsPolynomial, poly_scale}
 use Rattle.monomials.proofs.Keys.{Each-weaker}
-use Rattle.monomials.specs.Monomials.{Monomial, degree}
+use Rattle.monomials.specs.Monomials.{Monomial}
 use Rattle.monomials.specs.Orders.{RowOrder}
 use Rattle.monomials.specs.Leading.{leading_coefficient}
 use Rattle.word_model.specs.Words.{Algebra}
 use Rattle.word_model.specs.Conditions.{IsGAlgebra}
-use Rattle.word_model.specs.Reduction.{Reduced as Reduction, element, is_within, Target, leading_target, step_by, less_step, Next, Ends, Undefined as Stops, Goes, next_step, after_step, steps_within, enough_steps, reduce}
+use Rattle.word_model.specs.Reduction.{Reduced as Reduction, reduce}
 use Rattle.word_model.specs.Jobs.{same_job, is_queued, without, job_sugar, element_sugar, least_job, start_of, chain_witness, AreSugars, UsesElements}
 use Rattle.word_model.specs.Machine.{State, Turn, On, Over, step, turn_of_job, turn_of_start, turn_of_rest, with_entry, with_element, jobs_of, most_elements, seeds_from, first_state, IsElement, IsState}
 use Rattle.word_model.specs.declared.records.Job.{Job}
@@ -22,10 +22,7 @@ use Rattle.word_model.specs.declared.records.Outcome.TheVariants.{Finished, Budg
 use Rattle.word_model.proofs.JobLists.{same_job-is, same_job-itself}
 use Rattle.word_model.specs.declared.records.TraceStep.{TraceStep}
 use Rattle.word_model.proofs.Steps.{first_state-is, step-keeps}
-use Rattle.word_model.specs.Products.{degree_limit}
-use Rattle.word_model.proofs.Targets.{IsPicked, leading_target-falls}
-use Rattle.word_model.proofs.Reductions.{next_step-goes}
-use Rattle.std.proofs.lemmas.Bool.{leb-true}
+use Rattle.word_model.proofs.Sugars.{reduce-uses}
 use Rattle.pair_strategy.specs.Queues.{JobQueue, jobs_in, IsRising, IsQueue, IsSet, HasKey, SameJobs}
 use Rattle.pair_strategy.specs.declared.keys.Keyed.{Keyed}
 use Rattle.left_reduce.specs.Reductions.{GoneOn, behind_steps, ended_of, ends_at}
@@ -329,40 +326,6 @@ admitted-sugars A gens mode budget o s q job entry element sugar ok lead turn =
     let next : IsState A gens (admits mode A.order.vars job entry element sugar s) =
     step-keeps A ok gens lead.sorted mode budget s (admits mode A.order.vars job entry element sugar s) lead.state (turn s (at_itself A gens mode budget o s)) in
     next.sugars
-
--- MOVE
-module _ (A : Algebra) (G : List Polynomial) where
-  step-uses : (h : Polynomial) (s : TraceStep) (h' : Polynomial) → next_step A G h (leading_target G h) ≡ Goes s h'
-      → (1 ≤ s.index) × (s.index ≤ length G) × (degree s.mono ≤ degree_limit)
-  step-uses h s h' e = by (leading_target G h) refl e
-    where
-      by : (o : Option Target) → leading_target G h ≡ o → next_step A G h o ≡ Goes s h' → (1 ≤ s.index) × (s.index ≤ length G) × (degree s.mono ≤ degree_limit)
-      by None at e = cc
-      by (Some (t, i)) at e =
-          let picked : IsPicked A G (leading_target G) h t i = leading_target-falls A G h t i at in
-          let m : Monomial = (step_by A t i (element G i)).mono in
-          let goes : (is_within m (element G i) ≡ true) × (step_by A t i (element G i) ≡ s) × (less_step A G h (step_by A t i (element G i)) ≡ h') =
-          next_step-goes A G h t i s h' e in
-          let low : degree m + poly_degree (element G i) ≤ degree_limit = leb-true (degree m + poly_degree (element G i)) degree_limit goes.0 in
-          subst (λ (s : TraceStep). (1 ≤ s.index) × (s.index ≤ length G) × (degree s.mono ≤ degree_limit)) goes.1
-          (picked.divisor.low, picked.divisor.high, omega (arith, low))
-
-  steps-use : (k : ℕ) (h : Polynomial) → UsesElements (length G) (steps_within A G (leading_target G) k h).trace
-  unfolding steps_within
-  steps-use zero h = tt
-  steps-use (suc k) h = by (next_step A G h (leading_target G h)) refl (steps-use k)
-    where
-      by : (n : Next) → next_step A G h (leading_target G h) ≡ n → ((h : Polynomial) → UsesElements (length G) (steps_within A G (leading_target G) k h).trace)
-          → UsesElements (length G) (after_step (steps_within A G (leading_target G) k) h n).trace
-      by Ends e ih = tt
-      by Stops e ih = tt
-      by (Goes s h') e ih = (step-uses h s h' e, ih h')
-
-  -- the steps use elements that there are
-  pub reduce-uses : (h : Polynomial) → UsesElements (length G) (reduce A G h).trace
-  unfolding reduce
-  reduce-uses h = steps-use (enough_steps A.order.vars h) h
--- MOVED
 
 -- the steps by which a start is reduced use elements that there are
 pub uses-elements : (run : Run) (B : Algebra) (G : List Polynomial) (h : Polynomial) (before : List TraceStep) (r : GoneOn) → G ≡ run.basis → before ≡ []

@@ -1,7 +1,6 @@
-//! Worked runs. Polynomials are texts: their terms, each a number and the digits of its exponents.
+//! Worked runs in the Weyl algebra. Polynomials are texts: their terms, each a number and exponents.
 
 ghost use Rattle.std.specs.Prelude.{◌≡◌, ◌<◌, ◌≤◌, ◌++◌, ◌∷◌, [], IfOk, OnOk, length};
-ghost use Rattle.monomials.specs.Monomials.{degree};
 ghost use Rattle.monomials.specs.Polynomials.{Each, IsPolynomial};
 
 use super::*;
@@ -9,44 +8,27 @@ use algebra::Relations;
 use gpoly::Term;
 use left_reduce::{reduce_from, start_of};
 use monomials::{Block, Expo, Order};
-use plain::PlainWorker;
 use prime_field::Field;
 use run_records::{Entry, Job, Outcome, Trace};
 use std::test::Fail;
 
-mod plain;
-mod queue;
-mod state;
-
-// The monomial with these digits as exponents.
-fn monomial(digits: &str) -> Result<Expo, Fail>
-    ensures { IfOk result (λ m. degree m ≤ 4095) }
-{
-    let digit = |byte: u8| u16::from(byte.saturating_sub(b'0'));
-    match digits.as_bytes() {
-        [x, d] => Ok(Expo::of(&[digit(*x), digit(*d)])),
-        [x, y, z] => Ok(Expo::of(&[digit(*x), digit(*y), digit(*z)])),
-        [x, y, z, t] => Ok(Expo::of(&[digit(*x), digit(*y), digit(*z), digit(*t)])),
-        [x, y, a, b, z] => Ok(Expo::of(&[digit(*x), digit(*y), digit(*a), digit(*b), digit(*z)])),
-        _ => Err("a monomial has two to five exponents".into()),
-    }
-}
-
-// The polynomial with one term, as `2:10` for 2 x.
+// The term with these exponents of x and d, as `2.1.0` for 2 x.
 fn term(alloc: Global, field: Field, order: &Order, text: &str) -> Result<GPoly, Fail>
     ensures { IfOk result (λ f. IsPolynomial field order.now f) }
 {
-    let (number, digits) = text.split_once(':').ok_or("a term has a colon")?;
-    let mono = monomial(digits)?;
-    if mono.len() != order.vars() {
-        return Err("a monomial has an exponent for each variable".into());
+    let (number, exponents) = text.split_once('.').ok_or("a term has exponents")?;
+    let (x, d) = exponents.split_once('.').ok_or("a term has two exponents")?;
+    let (x, d) = (x.parse::<u16>()?, d.parse::<u16>()?);
+    if order.vars() != 2 || u32::from(x) + u32::from(d) > 4095 {
+        return Err("a monomial has two exponents, of degree 4095 at most".into());
     }
+    let mono = Expo::of(&[x, d]);
     let coef = field.from_int(number.parse::<u64>()?);
     let term = GPoly::from_terms(alloc, field, order, &[Term { coef, mono }])?;
     Ok(term)
 }
 
-// The sum of the terms, as `1:11 6:00` for x y - 1 modulo 7.
+// The sum of the terms, as `1.1.1 6.0.0` for x d - 1 modulo 7.
 fn poly(alloc: Global, field: Field, order: &Order, text: &str) -> Result<GPoly, Fail>
     ensures { IfOk result (λ f. IsPolynomial field order.now f) }
 {
@@ -81,50 +63,17 @@ fn polys(alloc: Global, alg: &Algebra, text: &str) -> Result<Vec<GPoly>, Fail>
 fn weyl(alloc: Global) -> Result<Algebra, Fail> {
     let field = Field::of(7)?;
     let order = Order::new(alloc, &[Block::DegRev { len: 2 }], 2)?;
-    let one = poly(alloc, field, &order, "1:00")?;
+    let one = poly(alloc, field, &order, "1.0.0")?;
     let c = Vec::from_array(alloc, [1])?;
     let d = Vec::from_array(alloc, [one]).map_err(AllocError::from)?;
     Ok(Algebra::new(alloc, field, order, 2, Relations { c, d })?)
 }
 
-// The polynomial ring in `n` variables modulo 7.
-fn ring(alloc: Global, n: usize) -> Result<Algebra, Fail>
-    requires some { 1 ≤ n }
-    requires few { n ≤ 16 }
-{
-    let order = Order::new(alloc, &[Block::DegRev { len: n }], n)?;
-    Ok(Algebra::commuting(alloc, Field::of(7)?, order, n)?)
-}
-
-// The algebra in x, y, a, b and z with a x = x a + z and b y = y b + z, modulo 32003.
-fn heisenberg(alloc: Global) -> Result<Algebra, Fail> {
-    let field = Field::of(32003)?;
-    let order = Order::new(alloc, &[Block::DegRev { len: 5 }], 5)?;
-    let ax = poly(alloc, field, &order, "1:00001")?;
-    let by = poly(alloc, field, &order, "1:00001")?;
-    let zero = || GPoly::zero(alloc);
-    let c = vec![in alloc; 1; 10]?;
-    let d = [
-        zero(),
-        ax,
-        zero(),
-        zero(),
-        zero(),
-        by,
-        zero(),
-        zero(),
-        zero(),
-        zero(),
-    ];
-    let d = Vec::from_array(alloc, d).map_err(AllocError::from)?;
-    Ok(Algebra::new(alloc, field, order, 5, Relations { c, d })?)
-}
-
-// Adds a number and the digits of a monomial.
+// Adds a number and exponents.
 fn push_term(text: &mut String, coef: u32, mono: &Expo) -> Result<(), AllocError> {
-    write!(text, " {coef}:")?;
+    write!(text, " {coef}")?;
     for v in 1..=mono.len() as u8 {
-        write!(text, "{}", mono.get(v))?;
+        write!(text, ".{}", mono.get(v))?;
     }
     Ok(())
 }
@@ -201,21 +150,19 @@ fn journal_text(alloc: Global, journal: &Journal) -> Result<String, AllocError> 
     Ok(text)
 }
 
-// The journal of an engine over these generators, as a text, where it makes the same one again.
-fn run<E: Engine>(
-    alloc: Global,
-    engine: &mut E,
-    alg: &Algebra,
-    gens: &str,
-    mode: Mode,
-    budget: u32,
-) -> Result<String, Fail>
-    requires ready { E.can_run engine.old }
-    requires some { 1 ≤ budget }
-{
+// The journal over the generators of a line, which has the mode's letter and the budget before them,
+// where a second run makes the same one again.
+fn run(alloc: Global, engine: &mut OneWorker, alg: &Algebra, line: &str) -> Result<String, Fail> {
+    let (limit, gens) = line.split_once(": ").ok_or("a line has a mode and a budget")?;
+    let (mode, budget) = limit.split_once(' ').ok_or("a line has a budget")?;
+    let mode = match mode {
+        "left" => Mode::Left,
+        _ => Mode::TwoSided,
+    };
+    let budget = budget.parse::<u32>()?;
     let gens = polys(alloc, alg, gens)?;
-    if gens.len() > 4096 {
-        return Err("there are at most 4096 generators".into());
+    if budget == 0 || gens.len() > 4096 {
+        return Err("a run has a budget and at most 4096 generators".into());
     }
     let journal = engine.basis(alloc, alg, &gens, mode, budget)?;
     let text = journal_text(alloc, &journal)?;
@@ -226,148 +173,45 @@ fn run<E: Engine>(
     Ok(text)
 }
 
-// The journal of the lead's run, where the plain program's is the same.
-fn journal(
-    alloc: Global,
-    alg: &Algebra,
-    gens: &str,
-    mode: Mode,
-    budget: u32,
-) -> Result<String, Fail>
-    requires { 1 ≤ budget }
-{
-    let text = run(alloc, &mut OneWorker::new(), alg, gens, mode, budget)?;
-    let plain = run(alloc, &mut PlainWorker::new(), alg, gens, mode, budget)?;
-    if text != plain {
-        return Err("the two engines have the same journal".into());
-    }
-    Ok(text)
-}
+const RUNS: &str = "\
+left 5: 1.1.1, 1.0.2
+left 1: 1.1.1, 1.0.2
+two_sided 3: 1.1.0
+left 9: 1.3000.0, 1.0.3000
+left 9: 0.0.0";
 
-const WEYL: &str = "\
+const JOURNALS: &str = "\
 New Seed 2 times 1
 New Seed 1 times 1
 New Pair 1 2 times 6
 Zero Pair 1 3
 Zero Pair 2 3
-Finished: 1:02; 1:11; 1:01;";
-
-const WEYL_SHORT: &str = "\
+Finished: 1.0.2; 1.1.1; 1.0.1;
 New Seed 2 times 1
-BudgetSpent: 1:02;";
+BudgetSpent: 1.0.2;
+New Seed 1 times 1
+New Right 1 2 1.0.1 by 1 times 6
+Zero Right 1 1 1.1.0 by 1
+BudgetSpent: 1.1.0; 1.0.0;
+New Seed 2 times 1
+New Seed 1 times 1
+DegreeOver: 1.0.3000; 1.3000.0;
+Finished:
+";
 
 #[test]
-fn ends_without_jobs_or_without_budget(rt: HostRuntime) -> Result<(), Fail> {
+fn makes_the_journals_of_runs(rt: HostRuntime) -> Result<(), Fail> {
     let alloc = rt.alloc();
     let alg = weyl(alloc)?;
-    let text = journal(alloc, &alg, "1:11, 1:02", Mode::Left, 5)?;
-    assert_eq!(rt; text.as_str(), WEYL);
-    let text = journal(alloc, &alg, "1:11, 1:02", Mode::Left, 1)?;
-    assert_eq!(rt; text.as_str(), WEYL_SHORT);
+    let mut engine = OneWorker::new();
+    let mut text = String::new(alloc);
+    for line in RUNS.lines() {
+        let journal = run(alloc, &mut engine, &alg, line)?;
+        text.push_str(journal.as_str())?;
+        text.push('\n')?;
+    }
+    assert_eq!(rt; text.as_str(), JOURNALS);
     Ok(())
-}
-
-const TWO_SIDED: &str = "\
-New Seed 1 times 1
-New Right 1 2 1:01 by 1 times 6
-Zero Right 2 2 1:01 by 2
-BudgetSpent: 1:10; 1:00;";
-
-#[test]
-fn multiplies_from_the_right_in_two_sided_runs(rt: HostRuntime) -> Result<(), Fail> {
-    let alloc = rt.alloc();
-    let alg = weyl(alloc)?;
-    let text = journal(alloc, &alg, "1:10", Mode::TwoSided, 3)?;
-    assert_eq!(rt; text.as_str(), TWO_SIDED);
-    Ok(())
-}
-
-const THREE_MONOMIALS: &str = "\
-New Seed 2 times 1
-New Seed 3 times 1
-New Seed 1 times 1
-Zero Pair 1 2
-Zero Pair 1 3
-Skipped Pair 2 3 by 1
-Finished: 1:011; 1:101; 1:110;";
-
-#[test]
-fn skips_a_pair_by_two_that_were_treated(rt: HostRuntime) -> Result<(), Fail> {
-    let alloc = rt.alloc();
-    let alg = ring(alloc, 3)?;
-    let gens = "1:110, 1:011, 1:101";
-    let text = journal(alloc, &alg, gens, Mode::Left, 100)?;
-    assert_eq!(rt; text.as_str(), THREE_MONOMIALS);
-    Ok(())
-}
-
-const EQUAL_LCMS: &str = "\
-New Seed 1 times 1
-New Seed 2 times 1
-New Seed 3 times 1
-New Seed 4 times 1
-Zero Pair 1 2
-Zero Pair 1 3
-Skipped Pair 2 3 by 1
-Zero Pair 1 4
-Skipped Pair 2 4 by 1
-Skipped Pair 3 4 by 1
-Finished: 1:0111; 1:1011; 1:1101; 1:1110;";
-
-#[test]
-fn takes_pairs_of_equal_lcms_by_their_second_element(rt: HostRuntime) -> Result<(), Fail> {
-    let alloc = rt.alloc();
-    let alg = ring(alloc, 4)?;
-    let gens = "1:0111, 1:1011, 1:1101, 1:1110";
-    let text = journal(alloc, &alg, gens, Mode::Left, 100)?;
-    assert_eq!(rt; text.as_str(), EQUAL_LCMS);
-    Ok(())
-}
-
-const HEISENBERG: &str = "\
-New Seed 3 times 1
-New Seed 2 times 1
-New Seed 4 times 1
-New Seed 1 times 1
-Zero Pair 1 2 32002:00000 by 2
-Zero Pair 1 3 32002:00000 by 3
-Zero Pair 1 4 32002:00000 by 4
-New Pair 3 4 32002:00100 by 1 times 32002
-Zero Pair 1 5 32002:00000 by 5
-Zero Pair 3 5
-Zero Pair 4 5
-Zero Pair 2 5
-Skipped Pair 2 3 by 5
-Skipped Pair 2 4 by 5
-Finished: 1:00001 32002:00000; 1:01010; 1:00200; 1:10100; 1:00100;";
-
-#[test]
-fn makes_a_basis_in_the_heisenberg_algebra(rt: HostRuntime) -> Result<(), Fail> {
-    let alloc = rt.alloc();
-    let alg = heisenberg(alloc)?;
-    let gens = "1:10100, 1:01010, 1:00001 32002:00000, 1:00200";
-    let text = journal(alloc, &alg, gens, Mode::Left, 100)?;
-    assert_eq!(rt; text.as_str(), HEISENBERG);
-    Ok(())
-}
-
-#[test]
-fn zero_generators_have_no_seeds(rt: HostRuntime) -> Result<(), Fail> {
-    let alloc = rt.alloc();
-    let alg = weyl(alloc)?;
-    let text = journal(alloc, &alg, "0:11, 0:02", Mode::Left, 1)?;
-    assert_eq!(rt; text.as_str(), "Finished:");
-    Ok(())
-}
-
-// The ring in t, x and y modulo 101, whose order compares by the power of t first.
-fn marked(alloc: Global) -> Result<Algebra, Fail>
-    ensures { IfOk result (λ alg. alg.order.vars ≡ 3) }
-{
-    let order = Order::new(alloc, &[Block::DegRev { len: 3 }], 3)?;
-    let t_first = order.with_extra(alloc, &[1])?;
-    let ring = Algebra::commuting(alloc, Field::of(101)?, order, 3)?;
-    Ok(ring.reordered(alloc, &t_first)?)
 }
 
 // Adds what a commit did.
@@ -401,7 +245,7 @@ fn push_ahead<L: Ledger>(
     Ok(())
 }
 
-// The jobs that wait, what so many commits do, the entries after them, and a job ahead.
+// The jobs that wait, what so many commits do, the entries and sugars after them, and a job ahead.
 fn commits<L: Ledger>(
     alloc: Global,
     seat: &mut TableSeat,
@@ -426,6 +270,10 @@ fn commits<L: Ledger>(
     }
     text.push('\n')?;
     push_entries(&mut text, lead.entries())?;
+    for sugar in lead.sugars() {
+        write!(text, "{sugar} ")?;
+    }
+    text.push('\n')?;
     push_ahead(alloc, &mut text, seat, lead, &mut steps)?;
     Ok(text)
 }
@@ -450,31 +298,27 @@ fn commits_text(
     commits::<Brand>(alloc, &mut seat, &mut lead, count, Blank::new(1))
 }
 
-const MARKED: &str = " Seed 1 Seed 2
-Added; Added; 
-New Seed 1 times 100
-New Seed 2 100:100 by 1 100:010 by 1 times 100
-Ahead Pair 1 2 1:001 by 1 100:010 by 2";
-
-#[test]
-fn reduces_the_second_seed_by_two_steps(rt: HostRuntime) -> Result<(), Fail> {
-    let alloc = rt.alloc();
-    let alg = marked(alloc)?;
-    let text = commits_text(alloc, &alg, "1:010 100:100, 1:001 100:200", 100, 2)?;
-    assert_eq!(rt; text.as_str(), MARKED);
-    Ok(())
-}
+const COMMITS: &str = " Seed 2 Seed 1
+Added; Added; Added; 
+New Seed 2 times 1
+New Seed 1 times 1
+New Pair 1 2 times 6
+2 2 3 
+Ahead Pair 1 3";
 
 const OVER: &str = " Seed 2 Seed 1
 Added; Over BudgetSpent; Over BudgetSpent; 
 New Seed 2 times 1
+2 
 Ahead Seed 1";
 
 #[test]
-fn a_lead_that_is_over_answers_the_same_again(rt: HostRuntime) -> Result<(), Fail> {
+fn goes_on_a_commit_at_a_time_until_it_is_over(rt: HostRuntime) -> Result<(), Fail> {
     let alloc = rt.alloc();
     let alg = weyl(alloc)?;
-    let text = commits_text(alloc, &alg, "1:11, 1:02", 1, 3)?;
+    let text = commits_text(alloc, &alg, "1.1.1, 1.0.2", 100, 3)?;
+    assert_eq!(rt; text.as_str(), COMMITS);
+    let text = commits_text(alloc, &alg, "1.1.1, 1.0.2", 1, 3)?;
     assert_eq!(rt; text.as_str(), OVER);
     Ok(())
 }

@@ -4,12 +4,13 @@ ghost use Rattle.std.specs.Prelude.{◌≡◌, ◌≢◌, ℕ, ◌≤◌, ◌<�
 ghost use Rattle.monomials.specs.Monomials.{degree};
 ghost use Rattle.monomials.specs.Polynomials.{Each, HasVars};
 ghost use Rattle.word_model.specs.Reduction.{element};
+ghost use Rattle.word_model.specs.Jobs.{AreSugars};
 
 use super::*;
 use gpoly::{GPoly, Term};
 use monomials::{Block, Expo, Order};
 use prime_field::Field;
-use run_records::{Elements, Job};
+use run_records::{Elements, Job, Trace, TraceStep};
 use std::alloc::{AllocError, Global};
 use std::test::Fail;
 
@@ -17,7 +18,7 @@ use std::test::Fail;
 fn monomial(digits: &[u8]) -> Result<Expo, Fail>
     ensures { IfOk result (λ m. degree m ≤ 4095) }
 {
-    let digit = |byte: u8| u16::from(byte.saturating_sub(b'0'));
+    let digit = |byte: u8| u16::from(byte.saturating_sub(b'0')).min(9);
     match digits {
         [x, y] => Ok(Expo::of(&[digit(*x), digit(*y)])),
         [x, y, z] => Ok(Expo::of(&[digit(*x), digit(*y), digit(*z)])),
@@ -86,12 +87,15 @@ fn pair(basis: &Vec<GPoly>, text: &str) -> Result<(u32, u32), Fail>
     Ok((i, j))
 }
 
-// The pair with its key.
-fn pair_key(basis: &Vec<GPoly>, text: &str) -> Result<Keyed, Fail>
-    requires { (n : ℕ) × Each (HasVars n) basis.now.items }
+// The degrees of the elements, as their sugars.
+fn degrees(alloc: Global, basis: &Vec<GPoly>) -> Result<Vec<u32>, AllocError>
+    ensures { IfOk result (λ sugars. AreSugars basis.now.items sugars.items × Each (λ n. n ≤ 4095) sugars.items) }
 {
-    let (i, j) = pair(basis, text)?;
-    Ok(job_key(basis, &[], &Job::Pair { i, j }))
+    let mut sugars = Vec::new(alloc);
+    for element in basis {
+        sugars.push(element.degree())?;
+    }
+    Ok(sugars)
 }
 
 // Queues a job that is not queued.
@@ -131,14 +135,23 @@ fn drain(alloc: Global, queue: &mut Queue, k: usize) -> Result<String, AllocErro
     Ok(text)
 }
 
-// A queue of these pairs.
-fn queued(alloc: Global, order: &Order, basis: &Vec<GPoly>, pairs: &str) -> Result<Queue, Fail>
-    requires { (n : ℕ) × Each (HasVars n) basis.now.items }
-{
+// A queue of these pairs, whatever their keys are.
+fn queued(alloc: Global, order: &Order, basis: &Vec<GPoly>, pairs: &str) -> Result<Queue, Fail> {
     let mut queue = Queue::new(alloc, order)?;
     for text in pairs.lines() {
-        let item = pair_key(basis, text)?;
-        push(alloc, &mut queue, order, item)?;
+        let (i, j) = pair(basis, text)?;
+        let mono = Expo::one(order.vars());
+        let job = Job::Pair { i, j };
+        push(
+            alloc,
+            &mut queue,
+            order,
+            Keyed {
+                sugar: 0,
+                mono,
+                job,
+            },
+        )?;
     }
     Ok(queue)
 }
@@ -155,65 +168,34 @@ fn made(alloc: Global, n: usize, elements: &str, pairs: &str) -> Result<(Vec<GPo
     Ok((basis, queue))
 }
 
-const EQUAL_LCMS: &str = "\
-Pair 1 2
-Pair 1 3
-Pair 2 3
-Pair 1 4
-taken:
-Pair 1 2
-Pair 1 3
-Pair 2 3
-Pair 1 4
-";
-
-#[test]
-fn pairs_of_equal_lcms_go_by_their_second_element(rt: HostRuntime) -> Result<(), Fail> {
-    let alloc = rt.alloc();
-    let (_, mut queue) = made(alloc, 4, "0111 1011 1101 1110", "34\n12\n24\n13\n23\n14")?;
-    let text = drain(alloc, &mut queue, 4)?;
-    assert_eq!(rt; text.as_str(), EQUAL_LCMS);
-    let text = drain(alloc, &mut queue, 4)?;
-    assert_eq!(rt;
-        text.as_str(),
-        "Pair 2 4\nPair 3 4\ntaken:\nPair 2 4\nPair 3 4\n"
-    );
-    Ok(())
-}
-
-// The job with this key, as the digits of a text: the exponents of its monomial, its kind, and its
-// numbers.
+// The job with this key, as the digits of a text: its sugar, the exponents of its monomial, its kind,
+// and its numbers.
 fn keyed(text: &str) -> Result<Keyed, Fail> {
     let digit = |byte: u8| u32::from(byte.saturating_sub(b'0'));
-    let (digits, job) = match text.as_bytes() {
-        [x, y, b's', s] => ([*x, *y], Job::Seed { s: digit(*s) }),
-        [x, y, b'p', i, j] => (
-            [*x, *y],
-            Job::Pair {
-                i: digit(*i),
-                j: digit(*j),
-            },
-        ),
-        [x, y, b'r', i, v] => (
-            [*x, *y],
-            Job::Right {
-                i: digit(*i),
-                v: v.saturating_sub(b'0'),
-            },
-        ),
-        _ => return Err("a job has a monomial, a kind and one or two numbers".into()),
+    let (sugar, digits, job) = match text.as_bytes() {
+        [n, x, y, b's', s] => (*n, [*x, *y], Job::Seed { s: digit(*s) }),
+        [n, x, y, b'p', i, j] => {
+            let (i, j) = (digit(*i), digit(*j));
+            (*n, [*x, *y], Job::Pair { i, j })
+        }
+        [n, x, y, b'r', i, v] => {
+            let (i, v) = (digit(*i), v.saturating_sub(b'0'));
+            (*n, [*x, *y], Job::Right { i, v })
+        }
+        _ => return Err("a job has a key of three digits, a kind and one or two numbers".into()),
     };
     Ok(Keyed {
+        sugar: digit(sugar),
         mono: monomial(&digits)?,
         job,
     })
 }
 
 const PUSHES: &str =
-    "11s2\n11p13\n11p23\n11p12\n11r12\n11r21\n11r11\n11s1\n02s3\n20s4\n10p45\n03p14";
+    "311s2\n311p13\n311p23\n311p12\n311r12\n311r21\n311r11\n311s1\n302s3\n320s4\n410p45\n203p14";
 
 const TAKES: &str = "\
-Pair 4 5
+Pair 1 4
 Seed 3
 Seed 1
 Seed 2
@@ -224,9 +206,9 @@ Right 1 1
 Right 1 2
 Right 2 1
 Seed 4
-Pair 1 4
+Pair 4 5
 taken:
-Pair 4 5
+Pair 1 4
 Seed 3
 Seed 1
 Seed 2
@@ -237,7 +219,7 @@ Right 1 1
 Right 1 2
 Right 2 1
 Seed 4
-Pair 1 4
+Pair 4 5
 ";
 
 // A queue of these jobs.
@@ -251,11 +233,47 @@ fn queued_jobs(alloc: Global, order: &Order, jobs: &str) -> Result<Queue, Fail> 
 }
 
 #[test]
-fn jobs_go_by_monomials_then_kinds_then_numbers(rt: HostRuntime) -> Result<(), Fail> {
+fn jobs_go_by_sugars_then_monomials_then_kinds_then_numbers(rt: HostRuntime) -> Result<(), Fail> {
     let alloc = rt.alloc();
     let mut queue = queued_jobs(alloc, &by_degree(alloc, 2)?, PUSHES)?;
     let text = drain(alloc, &mut queue, 20)?;
     assert_eq!(rt; text.as_str(), TAKES);
+    Ok(())
+}
+
+// The sugar of a pair of these elements, whose sugars are their degrees.
+fn pair_sugar(alloc: Global, basis: &Vec<GPoly>, text: &str) -> Result<u32, Fail>
+    requires { (n : ℕ) × Each (HasVars n) basis.now.items }
+{
+    let (i, j) = pair(basis, text)?;
+    let sugars = degrees(alloc, basis)?;
+    Ok(job_key(basis, &sugars, &[], &Job::Pair { i, j }).sugar)
+}
+
+// The sugar of an element over a job of sugar 3 and a step by an element of this sugar.
+fn sugar_after(alloc: Global, sugar: u32, digits: &str) -> Result<u32, Fail>
+    requires { sugar ≤ 4095 }
+{
+    let mut trace = Trace::new(alloc);
+    let mono = monomial(digits.as_bytes())?;
+    let step = TraceStep {
+        coef: 1,
+        mono,
+        index: 1,
+    };
+    trace.push(step)?;
+    Ok(element_sugar(&[sugar], 3, &trace))
+}
+
+#[test]
+fn sugars_of_pairs_and_elements(rt: HostRuntime) -> Result<(), Fail> {
+    let alloc = rt.alloc();
+    let order = by_degree(alloc, 3)?;
+    let basis = polys(alloc, &order, "011 110 100")?;
+    assert_eq!(rt; pair_sugar(alloc, &basis, "12")?, 3);
+    assert_eq!(rt; pair_sugar(alloc, &basis, "23")?, 2);
+    assert_eq!(rt; sugar_after(alloc, 1, "100")?, 3);
+    assert_eq!(rt; sugar_after(alloc, 2, "210")?, 5);
     Ok(())
 }
 

@@ -9,7 +9,7 @@ use Rattle.monomials.proofs.Exponents.{degree-plus}
 use Rattle.word_model.specs.Words.{Algebra}
 use Rattle.word_model.specs.Conditions.{IsGAlgebra}
 use Rattle.word_model.specs.Products.{product, variable_polynomial, degree_limit}
-use Rattle.word_model.specs.Reduction.{element, quotient, multiple, is_within, Target, leading_target, step_by, less_step, Goes, next_step, reduce}
+use Rattle.word_model.specs.Reduction.{element, quotient, multiple, is_within, Target, leading_target, step_by, less_step, Next, Ends, Undefined, Goes, next_step, after_step, steps_within, enough_steps, reduce}
 use Rattle.word_model.specs.Jobs.{IsJob, start_of, s_polynomial, pair_within, sugar_at, job_sugar, element_sugar, AreSugars, UsesElements}
 use Rattle.word_model.specs.Machine.{IsElement}
 use Rattle.word_model.specs.declared.records.Job.{Job}
@@ -20,7 +20,7 @@ use Rattle.word_model.proofs.LeastNumbers.{Each-element}
 use Rattle.word_model.proofs.Divisions.{length-minus, plus-minus}
 use Rattle.word_model.proofs.CommonMultiples.{length-lcm, divides-lcm, divides-lcm_second}
 use Rattle.word_model.proofs.TermProducts.{poly_degree-variable}
-use Rattle.word_model.proofs.Targets.{IsPicked}
+use Rattle.word_model.proofs.Targets.{IsPicked, leading_target-falls}
 use Rattle.word_model.proofs.Multiples.{length-leading_monomial, step_vars}
 use Rattle.word_model.proofs.Differences.{EachKey-sub}
 use Rattle.word_model.proofs.Starts.{start_of-pair, start_of-seed, start_of-right}
@@ -154,34 +154,39 @@ module _ (A : Algebra) (ok : IsGAlgebra A) where
         (λ h s h' h_is h'_is e r ih n low. ih (max n (sugar_at sugars s.index + degree s.mono)) (next_step-sugar h s h' n h_is e low))
         h h_is n low
 
-    -- the steps use elements that there are
-    pub reduce-uses : (h : Polynomial) → IsOf A ok h → UsesElements (length G) (reduce A G h).trace
-    reduce-uses h h_is =
-        reduction_cases A ok G elements (leading_target G) (reduce A G) (leading_reduction A ok G elements)
-        (λ h r. UsesElements (length G) r.trace)
-        (λ h h_is e. tt)
-        (λ h h_is. tt)
-        (λ h s h' h_is h'_is e r ih. (uses h s h' e, ih))
-        h h_is
-      where
-        red : IsReduction A ok G (leading_target G) (reduce A G)
-        red = leading_reduction A ok G elements
+-- ---- traces
 
-        uses : (h : Polynomial) (s : TraceStep) (h' : Polynomial) → next_step A G h (leading_target G h) ≡ Goes s h'
-            → (1 ≤ s.index) × (s.index ≤ length G) × (degree s.mono ≤ degree_limit)
-        uses h s h' e = by (leading_target G h) refl e
-          where
-            by : (o : Option Target) → leading_target G h ≡ o → next_step A G h o ≡ Goes s h'
-                → (1 ≤ s.index) × (s.index ≤ length G) × (degree s.mono ≤ degree_limit)
-            by None at e = cc
-            by (Some (t, i)) at e =
-                let picked : IsPicked A G (leading_target G) h t i = red.targeting h t i at in
-                let m : Monomial = (step_by A t i (element G i)).mono in
-                let goes : (is_within m (element G i) ≡ true) × (step_by A t i (element G i) ≡ s) × (less_step A G h (step_by A t i (element G i)) ≡ h') =
-                next_step-goes A G h t i s h' e in
-                let low : degree m + poly_degree (element G i) ≤ degree_limit = leb-true (degree m + poly_degree (element G i)) degree_limit goes.0 in
-                subst (λ (s : TraceStep). (1 ≤ s.index) × (s.index ≤ length G) × (degree s.mono ≤ degree_limit)) goes.1
-                (picked.divisor.low, picked.divisor.high, omega (arith, low))
+module _ (A : Algebra) (G : List Polynomial) where
+  step-uses : (h : Polynomial) (s : TraceStep) (h' : Polynomial) → next_step A G h (leading_target G h) ≡ Goes s h'
+      → (1 ≤ s.index) × (s.index ≤ length G) × (degree s.mono ≤ degree_limit)
+  step-uses h s h' e = by (leading_target G h) refl e
+    where
+      by : (o : Option Target) → leading_target G h ≡ o → next_step A G h o ≡ Goes s h' → (1 ≤ s.index) × (s.index ≤ length G) × (degree s.mono ≤ degree_limit)
+      by None at e = cc
+      by (Some (t, i)) at e =
+          let picked : IsPicked A G (leading_target G) h t i = leading_target-falls A G h t i at in
+          let m : Monomial = (step_by A t i (element G i)).mono in
+          let goes : (is_within m (element G i) ≡ true) × (step_by A t i (element G i) ≡ s) × (less_step A G h (step_by A t i (element G i)) ≡ h') =
+          next_step-goes A G h t i s h' e in
+          let low : degree m + poly_degree (element G i) ≤ degree_limit = leb-true (degree m + poly_degree (element G i)) degree_limit goes.0 in
+          subst (λ (s : TraceStep). (1 ≤ s.index) × (s.index ≤ length G) × (degree s.mono ≤ degree_limit)) goes.1
+          (picked.divisor.low, picked.divisor.high, omega (arith, low))
+
+  steps-use : (k : ℕ) (h : Polynomial) → UsesElements (length G) (steps_within A G (leading_target G) k h).trace
+  unfolding steps_within
+  steps-use zero h = tt
+  steps-use (suc k) h = by (next_step A G h (leading_target G h)) refl (steps-use k)
+    where
+      by : (n : Next) → next_step A G h (leading_target G h) ≡ n → ((h : Polynomial) → UsesElements (length G) (steps_within A G (leading_target G) k h).trace)
+          → UsesElements (length G) (after_step (steps_within A G (leading_target G) k) h n).trace
+      by Ends e ih = tt
+      by Undefined e ih = tt
+      by (Goes s h') e ih = (step-uses h s h' e, ih h')
+
+  -- the steps use elements that there are
+  pub reduce-uses : (h : Polynomial) → UsesElements (length G) (reduce A G h).trace
+  unfolding reduce
+  reduce-uses h = steps-use (enough_steps A.order.vars h) h
 
 -- ---- bounds
 

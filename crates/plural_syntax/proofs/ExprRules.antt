@@ -44,7 +44,7 @@ use Rattle.plural_syntax.specs.declared.tree.TokenAfter.{TokenAfter}
 use Rattle.plural_syntax.specs.declared.tree.TokenList.{TokenList}
 use Rattle.plural_syntax.specs.declared.tree.TokenGroup.{TokenGroup}
 use Rattle.plural_syntax.specs.declared.tree.ExprPair.{ExprPair}
-use Rattle.plural_syntax.specs.Reading.{Parser, maybe, many, token_after, token_list, token_group, second, index, power, expr_after_with, list_with, pair_with, called_with, base_with, factor_with, scaled_with, term_with, added_with, sum_with, expr_with, resumed_with, expr, inside}
+use Rattle.plural_syntax.specs.Inside.Reading.{Parser, maybe, many, token_after, token_list, token_group, second, index, power, expr_after_with, list_with, pair_with, called_with, base_with, factor_with, scaled_with, term_with, added_with, sum_with, expr_with, resumed_with, expr, inside}
 use Rattle.plural_syntax.proofs.Words.{sample, word-sample, is_word, is_one_of_two, each_function}
 use Rattle.plural_syntax.proofs.Readers.{Begins, Seq, Takes, Names, Nothing}
 use Rattle.plural_syntax.proofs.Readers.Seq.{seq}

@@ -9,8 +9,8 @@ use Rattle.plural_syntax.specs.Levels.{Step}
 use Rattle.plural_syntax.specs.Grammar.{Lang, Repeated, Optional}
 use Rattle.plural_syntax.specs.Grammar.Repeated.{no_more, one_more}
 use Rattle.plural_syntax.specs.Grammar.Optional.{absent, present}
-use Rattle.plural_syntax.specs.Reading.{Answer, Parser, pure, and_then, ◌>>=◌, take, named_by, function_name, when, maybe, many}
-use Rattle.plural_syntax.specs.Reading.Why.{unexpected, deep}
+use Rattle.plural_syntax.specs.Inside.Reading.{Answer, Parser, pure, and_then, ◌>>=◌, take, named_by, function_name, when, maybe, many}
+use Rattle.plural_syntax.specs.Inside.Reading.Why.{unexpected, deep}
 use Rattle.plural_syntax.proofs.Words.{is_word}
 use Rattle.plural_syntax.proofs.Readers.{Begins, StopsBad, Reads, Seq, Takes, Names, Nothing, IsNonempty, many-step}
 use Rattle.plural_syntax.proofs.Readers.Seq.{seq}

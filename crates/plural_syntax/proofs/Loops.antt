@@ -6,7 +6,7 @@ use Rattle.plural_syntax.specs.declared.reading.Stop.TheVariants as stop
 use Rattle.plural_syntax.specs.Words.{Lexeme, head_is}
 use Rattle.plural_syntax.specs.Levels.{Step}
 use Rattle.plural_syntax.specs.Grammar.{Lang, IsTokenAfter, IsScaled, IsAdded, IsExpr, IsExprAfter}
-use Rattle.plural_syntax.specs.Reading.{Why, Answer, Parser, many, token_after, scaled_with, added_with, expr_after_with, expr_with, expr, inside, Fails}
+use Rattle.plural_syntax.specs.Inside.Reading.{Why, Answer, Parser, many, token_after, scaled_with, added_with, expr_after_with, expr_with, expr, inside, Fails}
 use Rattle.plural_syntax.proofs.Readers.{prepend, loop_returns, loop_err, loop_goes}
 use Rattle.plural_syntax.proofs.Rules.{Rule, Starts, nonempty_starts}
 use Rattle.plural_syntax.proofs.Strict.{strict}

@@ -25,7 +25,7 @@ use Rattle.plural_syntax.specs.declared.tree.ItemList.{ItemList}
 use Rattle.plural_syntax.specs.declared.tree.Value.{Value}
 use Rattle.plural_syntax.specs.declared.tree.Values.{Values}
 use Rattle.plural_syntax.specs.declared.tree.Side.{Side}
-use Rattle.plural_syntax.specs.Reading.{Parser, maybe, expr_with, read_vars, item, item_after, item_list, read_order, side, value_with, values_with}
+use Rattle.plural_syntax.specs.Inside.Reading.{Parser, maybe, expr_with, read_vars, item, item_after, item_list, read_order, side, value_with, values_with}
 use Rattle.plural_syntax.proofs.Words.{is_word}
 use Rattle.plural_syntax.proofs.Readers.{Seq, Takes, Nothing}
 use Rattle.plural_syntax.proofs.Readers.Seq.{seq}

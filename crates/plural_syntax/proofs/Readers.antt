@@ -11,8 +11,8 @@ use Rattle.plural_syntax.specs.Words.{Lexeme, word, is, head_is, next, function_
 use Rattle.plural_syntax.specs.Levels.{Step, on_some, walk}
 use Rattle.plural_syntax.specs.Grammar.{Lang, Repeated}
 use Rattle.plural_syntax.specs.Grammar.Repeated.{no_more, one_more}
-use Rattle.plural_syntax.specs.Reading.{Why, Answer, Parser, pure, and_then, ◌>>=◌, refuse, take, named_by, function_name, when, many_by, many}
-use Rattle.plural_syntax.specs.Reading.Why.{unexpected, deep}
+use Rattle.plural_syntax.specs.Inside.Reading.{Why, Answer, Parser, pure, and_then, ◌>>=◌, refuse, take, named_by, function_name, when, many_by, many}
+use Rattle.plural_syntax.specs.Inside.Reading.Why.{unexpected, deep}
 use Rattle.plural_syntax.proofs.Words.{sample, word-sample, same_word, function_word}
 
 abbrev pub head : List Lexeme → Option Lexeme

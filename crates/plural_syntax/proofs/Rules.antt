@@ -10,7 +10,7 @@ use Rattle.plural_syntax.specs.Levels.{Step}
 use Rattle.plural_syntax.specs.Grammar.{Lang, Repeated, Optional}
 use Rattle.plural_syntax.specs.Grammar.Repeated.{no_more, one_more}
 use Rattle.plural_syntax.specs.Grammar.Optional.{absent, present}
-use Rattle.plural_syntax.specs.Reading.{Parser, pure, ◌>>=◌, take, take_either, function_name, when, maybe, many}
+use Rattle.plural_syntax.specs.Inside.Reading.{Parser, pure, ◌>>=◌, take, take_either, function_name, when, maybe, many}
 use Rattle.plural_syntax.proofs.Words.{same_word, same_either, is_one_of_two, one_or_other}
 use Rattle.plural_syntax.proofs.Readers.{Reads, Seq, Takes, Names, Nothing, IsNonempty, reads_weak, reads_bind, reads_take, reads_name, reads_pure, reads_when, reads_by, reads_many}
 use Rattle.plural_syntax.proofs.Readers.Seq.{seq}

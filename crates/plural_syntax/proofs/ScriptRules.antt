@@ -18,8 +18,8 @@ use Rattle.plural_syntax.specs.Levels.{on_some, walk, down, levels}
 use Rattle.plural_syntax.specs.Grammar.{Lang, Repeated, IsStatement, IsScript}
 use Rattle.plural_syntax.specs.Grammar.IsScript.{script as is_script}
 use Rattle.plural_syntax.specs.Outcome.{IsParsed, IsUnexpected, IsTooDeep}
-use Rattle.plural_syntax.specs.Reading.{Answer, Parser, pure, and_then, ◌>>=◌, take, inside, statement_with, not_end, statements, script}
-use Rattle.plural_syntax.specs.Reading.Why.{unexpected, deep}
+use Rattle.plural_syntax.specs.Inside.Reading.{Answer, Parser, pure, and_then, ◌>>=◌, take, inside, statement_with, not_end, statements, script}
+use Rattle.plural_syntax.specs.Inside.Reading.Why.{unexpected, deep}
 use Rattle.plural_syntax.proofs.Readers.{Begins, Stops, StopsOk, StopsDeep, Reads, Seq, Takes, Nothing, reads_weak, reads_bind, reads_take, reads_pure, reads_many}
 use Rattle.plural_syntax.proofs.Readers.Seq.{seq}
 use Rattle.plural_syntax.proofs.Readers.Takes.{takes}

@@ -30,7 +30,7 @@ use Rattle.plural_syntax.specs.declared.tree.ExprList.{ExprList}
 use Rattle.plural_syntax.specs.declared.tree.Power.{Power}
 use Rattle.plural_syntax.specs.declared.tree.Index.{Index}
 use Rattle.plural_syntax.specs.declared.tree.TokenAfter.{TokenAfter}
-use Rattle.plural_syntax.specs.Reading.{Parser, refuse, when, pair_with, expr_with, start_of, empty_statement, ring_statement, set_ring_statement, option_statement, short_statement, quit_statement, print_with, printed_with, expr_statement_with, defined_with, def_with, poly_with, after_ideal, ideal_with, module_with, matrix_with, assign_with, assign_entry_with, assigned_entry, after_name, named_with, statement_from, statement_with, not_end}
+use Rattle.plural_syntax.specs.Inside.Reading.{Parser, refuse, when, pair_with, expr_with, start_of, empty_statement, ring_statement, set_ring_statement, option_statement, short_statement, quit_statement, print_with, printed_with, expr_statement_with, defined_with, def_with, poly_with, after_ideal, ideal_with, module_with, matrix_with, assign_with, assign_entry_with, assigned_entry, after_name, named_with, statement_from, statement_with, not_end}
 use Rattle.plural_syntax.proofs.Words.{same_word, same_either, each_function}
 use Rattle.plural_syntax.proofs.Readers.{Seq, Takes, Nothing, reads_when, reads_refuse, reads_weak}
 use Rattle.plural_syntax.proofs.Readers.Seq.{seq}

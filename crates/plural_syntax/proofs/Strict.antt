@@ -6,8 +6,8 @@ use Rattle.plural_syntax.specs.declared.word.Word.TheVariants as w
 use Rattle.plural_syntax.specs.Words.{Lexeme, word, is, head_is}
 use Rattle.plural_syntax.specs.Levels.{Step, levels}
 use Rattle.plural_syntax.specs.Grammar.{Lang}
-use Rattle.plural_syntax.specs.Reading.{Parser, level}
-use Rattle.plural_syntax.specs.Reading.Why.{unexpected, deep}
+use Rattle.plural_syntax.specs.Inside.Reading.{Parser, level}
+use Rattle.plural_syntax.specs.Inside.Reading.Why.{unexpected, deep}
 use Rattle.plural_syntax.proofs.Words.{sample, word-sample, same_word, is_word}
 use Rattle.plural_syntax.proofs.Readers.{head_is-same, Begins, Stops, Seq, Takes, Nothing}
 use Rattle.plural_syntax.proofs.Readers.Seq.{seq}

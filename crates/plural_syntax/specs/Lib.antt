@@ -1,5 +1,6 @@
+pub mod Inside
 pub mod Words
 pub mod Levels
 pub mod Grammar
-pub mod Reading
+pub mod Layers
 pub mod Outcome

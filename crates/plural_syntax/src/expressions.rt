@@ -3,7 +3,7 @@
 ghost use Rattle.std.specs.Prelude.{◌≡◌, ◌<◌, ◌≤◌, ◌-◌, length, IfOk, OnOk};
 ghost use Rattle.std.specs.Option.{option_map};
 ghost use Rattle.plural_syntax.specs.Words.{is, is_either, lexemes};
-ghost use Rattle.plural_syntax.specs.Reading as spec;
+ghost use Rattle.plural_syntax.specs.Inside.Reading as spec;
 
 use crate::levels::Levels;
 use crate::reading::{Stop, function_name, maybe_index, maybe_power, take, take_either};
@@ -97,7 +97,7 @@ fn inner_arguments<'a>(
 
 /// A call, behind the name of its function.
 #[cycle(read)]
-#[tactic(auto, unfolding(crate::specs::Reading::called_with))]
+#[tactic(auto, unfolding(crate::specs::Inside::Reading::called_with))]
 pub fn called<'a>(
     alloc: Global,
     bytes: &[u8],
@@ -120,7 +120,7 @@ pub fn called<'a>(
 }
 
 #[cycle(read)]
-#[tactic(auto, unfolding(crate::specs::Reading::base_with))]
+#[tactic(auto, unfolding(crate::specs::Inside::Reading::base_with))]
 fn base<'a>(
     alloc: Global,
     bytes: &[u8],
@@ -153,7 +153,7 @@ fn base<'a>(
 }
 
 #[cycle(read)]
-#[tactic(auto, unfolding(crate::specs::Reading::factor_with))]
+#[tactic(auto, unfolding(crate::specs::Inside::Reading::factor_with))]
 fn factor<'a>(
     alloc: Global,
     bytes: &[u8],
@@ -170,7 +170,7 @@ fn factor<'a>(
 }
 
 #[cycle(read)]
-#[tactic(auto, unfolding(crate::specs::Reading::scaled_with))]
+#[tactic(auto, unfolding(crate::specs::Inside::Reading::scaled_with))]
 fn scaled<'a>(
     alloc: Global,
     bytes: &[u8],
@@ -214,7 +214,7 @@ fn all_scaled<'a>(
 }
 
 #[cycle(read)]
-#[tactic(auto, unfolding(crate::specs::Reading::term_with))]
+#[tactic(auto, unfolding(crate::specs::Inside::Reading::term_with))]
 fn term<'a>(
     alloc: Global,
     bytes: &[u8],
@@ -231,7 +231,7 @@ fn term<'a>(
 }
 
 #[cycle(read)]
-#[tactic(auto, unfolding(crate::specs::Reading::added_with))]
+#[tactic(auto, unfolding(crate::specs::Inside::Reading::added_with))]
 fn added<'a>(
     alloc: Global,
     bytes: &[u8],
@@ -269,7 +269,7 @@ fn all_added<'a>(
 }
 
 #[cycle(read)]
-#[tactic(auto, unfolding(crate::specs::Reading::sum_with))]
+#[tactic(auto, unfolding(crate::specs::Inside::Reading::sum_with))]
 fn sum<'a>(
     alloc: Global,
     bytes: &[u8],
@@ -287,7 +287,7 @@ fn sum<'a>(
 }
 
 #[cycle(read)]
-#[tactic(auto, unfolding(crate::specs::Reading::expr_with))]
+#[tactic(auto, unfolding(crate::specs::Inside::Reading::expr_with))]
 pub fn expr<'a>(
     alloc: Global,
     bytes: &[u8],
@@ -307,7 +307,7 @@ pub fn expr<'a>(
 }
 
 #[cycle(read)]
-#[tactic(auto, unfolding(crate::specs::Reading::expr_after_with))]
+#[tactic(auto, unfolding(crate::specs::Inside::Reading::expr_after_with))]
 fn expr_after<'a>(
     alloc: Global,
     bytes: &[u8],
@@ -345,7 +345,7 @@ fn exprs_after<'a>(
 }
 
 #[cycle(read)]
-#[tactic(auto, unfolding(crate::specs::Reading::list_with))]
+#[tactic(auto, unfolding(crate::specs::Inside::Reading::list_with))]
 pub fn list<'a>(
     alloc: Global,
     bytes: &[u8],
@@ -362,7 +362,7 @@ pub fn list<'a>(
 }
 
 /// An expression without a sign, behind its first base.
-#[tactic(auto, unfolding(crate::specs::Reading::resumed_with))]
+#[tactic(auto, unfolding(crate::specs::Inside::Reading::resumed_with))]
 pub fn resumed<'a>(
     alloc: Global,
     bytes: &[u8],

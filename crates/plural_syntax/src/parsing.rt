@@ -3,7 +3,7 @@
 ghost use Rattle.std.specs.Prelude.{◌≡◌, ◌<◌, ◌≤◌, [], length, IfOk, OnOk};
 ghost use Rattle.plural_lexer.specs.Tokens.{AreTokensOf};
 ghost use Rattle.plural_syntax.specs.Words.{head_is, lexemes};
-ghost use Rattle.plural_syntax.specs.Reading as spec;
+ghost use Rattle.plural_syntax.specs.Inside.Reading as spec;
 ghost use Rattle.plural_syntax.specs.Outcome.{Answers};
 
 use crate::levels::Levels;
@@ -56,7 +56,7 @@ fn statements<'a>(
     Ok((found, rest))
 }
 
-#[tactic(auto, unfolding(crate::specs::Reading::script, crate::specs::Reading::statements))]
+#[tactic(auto, unfolding(crate::specs::Inside::Reading::script, crate::specs::Inside::Reading::statements))]
 fn script<'a>(
     alloc: Global,
     bytes: &[u8],

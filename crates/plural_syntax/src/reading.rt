@@ -2,7 +2,7 @@
 
 ghost use Rattle.std.specs.Prelude.{◌≡◌, ◌<◌, ◌≤◌, length, IfOk};
 ghost use Rattle.plural_syntax.specs.Words.{is, lexemes};
-ghost use Rattle.plural_syntax.specs.Reading as spec;
+ghost use Rattle.plural_syntax.specs.Inside.Reading as spec;
 
 use crate::tree::{FunctionName, Index, Power, TokenAfter, TokenGroup, TokenList};
 use crate::word::{Word, next_function, next_is};
@@ -44,7 +44,7 @@ pub fn take<'a>(
     }
 }
 
-#[tactic(auto, unfolding(crate::specs::Reading::take_either))]
+#[tactic(auto, unfolding(crate::specs::Inside::Reading::take_either))]
 pub fn take_either<'a>(
     bytes: &[u8],
     tokens: &'a [Token],
@@ -77,7 +77,7 @@ pub fn function_name<'a>(
     }
 }
 
-#[tactic(auto, unfolding(crate::specs::Reading::token_after))]
+#[tactic(auto, unfolding(crate::specs::Inside::Reading::token_after))]
 fn token_after<'a>(
     bytes: &[u8],
     tokens: &'a [Token],
@@ -110,7 +110,7 @@ fn tokens_after<'a>(
     Ok((found, rest))
 }
 
-#[tactic(auto, unfolding(crate::specs::Reading::token_list))]
+#[tactic(auto, unfolding(crate::specs::Inside::Reading::token_list))]
 fn token_list<'a>(
     alloc: Global,
     bytes: &[u8],
@@ -125,7 +125,7 @@ fn token_list<'a>(
     Ok((TokenList { first, more }, rest))
 }
 
-#[tactic(auto, unfolding(crate::specs::Reading::token_group))]
+#[tactic(auto, unfolding(crate::specs::Inside::Reading::token_group))]
 pub fn token_group<'a>(
     alloc: Global,
     bytes: &[u8],
@@ -146,7 +146,7 @@ pub fn token_group<'a>(
     Ok((group, rest))
 }
 
-#[tactic(auto, unfolding(crate::specs::Reading::second))]
+#[tactic(auto, unfolding(crate::specs::Inside::Reading::second))]
 fn second<'a>(
     bytes: &[u8],
     tokens: &'a [Token],
@@ -162,7 +162,7 @@ fn second<'a>(
     }
 }
 
-#[tactic(auto, unfolding(crate::specs::Reading::index))]
+#[tactic(auto, unfolding(crate::specs::Inside::Reading::index))]
 fn index<'a>(bytes: &[u8], tokens: &'a [Token]) -> Result<(Index, &'a [Token]), Stop<'a>>
     ensures value { spec.Gives bytes.now result (spec.index (lexemes bytes.now tokens.now)) }
     ensures shorter { IfOk result (λ x. length x.1.now < length tokens.now) }
@@ -196,7 +196,7 @@ pub fn maybe_index<'a>(
     }
 }
 
-#[tactic(auto, unfolding(crate::specs::Reading::power))]
+#[tactic(auto, unfolding(crate::specs::Inside::Reading::power))]
 fn power<'a>(bytes: &[u8], tokens: &'a [Token]) -> Result<(Power, &'a [Token]), Stop<'a>>
     ensures value { spec.Gives bytes.now result (spec.power (lexemes bytes.now tokens.now)) }
     ensures shorter { IfOk result (λ x. length x.1.now < length tokens.now) }

@@ -3,7 +3,7 @@
 ghost use Rattle.std.specs.Prelude.{◌≡◌, ◌<◌, ◌≤◌, ◌-◌, length, IfOk, OnOk, Option};
 ghost use Rattle.std.specs.Option.{option_map};
 ghost use Rattle.plural_syntax.specs.Words.{is, lexemes, head_is};
-ghost use Rattle.plural_syntax.specs.Reading as spec;
+ghost use Rattle.plural_syntax.specs.Inside.Reading as spec;
 
 use crate::expressions::{called, expr, list, resumed};
 use crate::levels::Levels;
@@ -58,7 +58,7 @@ fn start_of(next: Option<Word>) -> Start
     }
 }
 
-#[tactic(auto, unfolding(crate::specs::Reading::read_vars))]
+#[tactic(auto, unfolding(crate::specs::Inside::Reading::read_vars))]
 fn vars<'a>(
     alloc: Global,
     bytes: &[u8],
@@ -92,7 +92,7 @@ fn maybe_numbers<'a>(
     }
 }
 
-#[tactic(auto, unfolding(crate::specs::Reading::item))]
+#[tactic(auto, unfolding(crate::specs::Inside::Reading::item))]
 fn item<'a>(
     alloc: Global,
     bytes: &[u8],
@@ -106,7 +106,7 @@ fn item<'a>(
     Ok((Item { name, numbers }, rest))
 }
 
-#[tactic(auto, unfolding(crate::specs::Reading::item_after))]
+#[tactic(auto, unfolding(crate::specs::Inside::Reading::item_after))]
 fn item_after<'a>(
     alloc: Global,
     bytes: &[u8],
@@ -138,7 +138,7 @@ fn items_after<'a>(
     Ok((found, rest))
 }
 
-#[tactic(auto, unfolding(crate::specs::Reading::item_list))]
+#[tactic(auto, unfolding(crate::specs::Inside::Reading::item_list))]
 fn item_list<'a>(
     alloc: Global,
     bytes: &[u8],
@@ -152,7 +152,7 @@ fn item_list<'a>(
     Ok((ItemList { first, more }, rest))
 }
 
-#[tactic(auto, unfolding(crate::specs::Reading::read_order))]
+#[tactic(auto, unfolding(crate::specs::Inside::Reading::read_order))]
 fn order<'a>(
     alloc: Global,
     bytes: &[u8],
@@ -177,7 +177,7 @@ fn order<'a>(
     }
 }
 
-#[tactic(auto, unfolding(crate::specs::Reading::side))]
+#[tactic(auto, unfolding(crate::specs::Inside::Reading::side))]
 fn side<'a>(
     alloc: Global,
     bytes: &[u8],
@@ -197,7 +197,7 @@ fn side<'a>(
     Ok((Boxed::new(alloc, side)?, rest))
 }
 
-#[tactic(auto, unfolding(crate::specs::Reading::value_with))]
+#[tactic(auto, unfolding(crate::specs::Inside::Reading::value_with))]
 fn value<'a>(
     alloc: Global,
     bytes: &[u8],
@@ -231,7 +231,7 @@ fn maybe_value<'a>(
     }
 }
 
-#[tactic(auto, unfolding(crate::specs::Reading::values_with))]
+#[tactic(auto, unfolding(crate::specs::Inside::Reading::values_with))]
 fn values<'a>(
     alloc: Global,
     bytes: &[u8],
@@ -265,7 +265,7 @@ fn maybe_values<'a>(
     }
 }
 
-#[tactic(auto, unfolding(crate::specs::Reading::pair_with))]
+#[tactic(auto, unfolding(crate::specs::Inside::Reading::pair_with))]
 fn pair<'a>(
     alloc: Global,
     bytes: &[u8],
@@ -326,7 +326,7 @@ fn data<'a>(
     }
 }
 
-#[tactic(auto, unfolding(crate::specs::Reading::empty_statement))]
+#[tactic(auto, unfolding(crate::specs::Inside::Reading::empty_statement))]
 fn empty_statement<'a>(
     bytes: &[u8],
     tokens: &'a [Token],
@@ -338,7 +338,7 @@ fn empty_statement<'a>(
     Ok((Statement::Empty { semicolon }, rest))
 }
 
-#[tactic(auto, unfolding(crate::specs::Reading::ring_statement))]
+#[tactic(auto, unfolding(crate::specs::Inside::Reading::ring_statement))]
 fn ring_statement<'a>(
     alloc: Global,
     bytes: &[u8],
@@ -370,7 +370,7 @@ fn ring_statement<'a>(
     Ok((statement, rest))
 }
 
-#[tactic(auto, unfolding(crate::specs::Reading::set_ring_statement))]
+#[tactic(auto, unfolding(crate::specs::Inside::Reading::set_ring_statement))]
 fn set_ring_statement<'a>(
     bytes: &[u8],
     tokens: &'a [Token],
@@ -389,7 +389,7 @@ fn set_ring_statement<'a>(
     Ok((statement, rest))
 }
 
-#[tactic(auto, unfolding(crate::specs::Reading::option_statement))]
+#[tactic(auto, unfolding(crate::specs::Inside::Reading::option_statement))]
 fn option_statement<'a>(
     alloc: Global,
     bytes: &[u8],
@@ -409,7 +409,7 @@ fn option_statement<'a>(
     Ok((statement, rest))
 }
 
-#[tactic(auto, unfolding(crate::specs::Reading::short_statement))]
+#[tactic(auto, unfolding(crate::specs::Inside::Reading::short_statement))]
 fn short_statement<'a>(
     bytes: &[u8],
     tokens: &'a [Token],
@@ -430,7 +430,7 @@ fn short_statement<'a>(
     Ok((statement, rest))
 }
 
-#[tactic(auto, unfolding(crate::specs::Reading::quit_statement))]
+#[tactic(auto, unfolding(crate::specs::Inside::Reading::quit_statement))]
 fn quit_statement<'a>(
     bytes: &[u8],
     tokens: &'a [Token],
@@ -445,7 +445,7 @@ fn quit_statement<'a>(
 }
 
 /// Behind `def` Name `=`.
-#[tactic(auto, unfolding(crate::specs::Reading::defined_with))]
+#[tactic(auto, unfolding(crate::specs::Inside::Reading::defined_with))]
 fn defined<'a>(
     alloc: Global,
     bytes: &[u8],
@@ -489,7 +489,7 @@ fn defined<'a>(
     }
 }
 
-#[tactic(auto, unfolding(crate::specs::Reading::def_with))]
+#[tactic(auto, unfolding(crate::specs::Inside::Reading::def_with))]
 fn def_statement<'a>(
     alloc: Global,
     bytes: &[u8],
@@ -506,7 +506,7 @@ fn def_statement<'a>(
     defined(alloc, bytes, levels, keyword, name, equals, rest)
 }
 
-#[tactic(auto, unfolding(crate::specs::Reading::poly_with))]
+#[tactic(auto, unfolding(crate::specs::Inside::Reading::poly_with))]
 fn poly_statement<'a>(
     alloc: Global,
     bytes: &[u8],
@@ -530,7 +530,7 @@ fn poly_statement<'a>(
     Ok((statement, rest))
 }
 
-#[tactic(auto, unfolding(crate::specs::Reading::module_with))]
+#[tactic(auto, unfolding(crate::specs::Inside::Reading::module_with))]
 fn module_statement<'a>(
     alloc: Global,
     bytes: &[u8],
@@ -554,7 +554,7 @@ fn module_statement<'a>(
     Ok((statement, rest))
 }
 
-#[tactic(auto, unfolding(crate::specs::Reading::matrix_with))]
+#[tactic(auto, unfolding(crate::specs::Inside::Reading::matrix_with))]
 fn matrix_statement<'a>(
     alloc: Global,
     bytes: &[u8],
@@ -583,7 +583,7 @@ fn matrix_statement<'a>(
 }
 
 /// The statement of an expression, behind its first base.
-#[tactic(auto, unfolding(crate::specs::Reading::printed_with, crate::specs::Reading::print_with))]
+#[tactic(auto, unfolding(crate::specs::Inside::Reading::printed_with, crate::specs::Inside::Reading::print_with))]
 fn printed<'a>(
     alloc: Global,
     bytes: &[u8],
@@ -602,7 +602,7 @@ fn printed<'a>(
 }
 
 /// Behind `ideal`.
-#[tactic(auto, unfolding(crate::specs::Reading::after_ideal))]
+#[tactic(auto, unfolding(crate::specs::Inside::Reading::after_ideal))]
 fn after_ideal<'a>(
     alloc: Global,
     bytes: &[u8],
@@ -635,7 +635,7 @@ fn after_ideal<'a>(
     }
 }
 
-#[tactic(auto, unfolding(crate::specs::Reading::ideal_with))]
+#[tactic(auto, unfolding(crate::specs::Inside::Reading::ideal_with))]
 fn ideal_statement<'a>(
     alloc: Global,
     bytes: &[u8],
@@ -650,7 +650,7 @@ fn ideal_statement<'a>(
     after_ideal(alloc, bytes, levels, keyword, rest)
 }
 
-#[tactic(auto, unfolding(crate::specs::Reading::assign_with))]
+#[tactic(auto, unfolding(crate::specs::Inside::Reading::assign_with))]
 fn assign<'a>(
     alloc: Global,
     bytes: &[u8],
@@ -675,7 +675,7 @@ fn assign<'a>(
     Ok((statement, rest))
 }
 
-#[tactic(auto, unfolding(crate::specs::Reading::assign_entry_with))]
+#[tactic(auto, unfolding(crate::specs::Inside::Reading::assign_entry_with))]
 fn assign_entry<'a>(
     alloc: Global,
     bytes: &[u8],
@@ -716,7 +716,7 @@ fn assign_entry<'a>(
 }
 
 /// Behind a name and its index.
-#[tactic(auto, unfolding(crate::specs::Reading::after_name))]
+#[tactic(auto, unfolding(crate::specs::Inside::Reading::after_name))]
 fn after_name<'a>(
     alloc: Global,
     bytes: &[u8],
@@ -739,7 +739,7 @@ fn after_name<'a>(
     }
 }
 
-#[tactic(auto, unfolding(crate::specs::Reading::named_with))]
+#[tactic(auto, unfolding(crate::specs::Inside::Reading::named_with))]
 fn named_statement<'a>(
     alloc: Global,
     bytes: &[u8],
@@ -755,7 +755,7 @@ fn named_statement<'a>(
     after_name(alloc, bytes, levels, name, index, rest)
 }
 
-#[tactic(auto, unfolding(crate::specs::Reading::expr_statement_with, crate::specs::Reading::print_with))]
+#[tactic(auto, unfolding(crate::specs::Inside::Reading::expr_statement_with, crate::specs::Inside::Reading::print_with))]
 fn expr_statement<'a>(
     alloc: Global,
     bytes: &[u8],
@@ -772,7 +772,7 @@ fn expr_statement<'a>(
     Ok((Statement::Print { value, semicolon }, rest))
 }
 
-#[tactic(auto, unfolding(crate::specs::Reading::statement_with))]
+#[tactic(auto, unfolding(crate::specs::Inside::Reading::statement_with))]
 pub fn statement<'a>(
     alloc: Global,
     bytes: &[u8],

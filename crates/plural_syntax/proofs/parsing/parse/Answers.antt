@@ -1,5 +1,5 @@
 use Rattle.std.proofs.Common.{subst}
-use Rattle.plural_syntax.specs.Reading.{Fails, script}
+use Rattle.plural_syntax.specs.Inside.Reading.{Fails, script}
 use Rattle.plural_syntax.specs.Words.{lexemes}
 use Rattle.plural_syntax.proofs.ScriptRules.{parse_ok, bad_at, deep_at, bad_somewhere, too_deep_somewhere}
 use Rattle.plural_syntax.proofs.parsing.parse.Goals as goal

@@ -1,7 +1,7 @@
 use Rattle.std.proofs.Common.{◌∙◌, sym, arith}
 use Rattle.std.proofs.lemmas.Result.{err_from_is_err_and}
 use Rattle.plural_syntax.specs.Words.{lexemes}
-use Rattle.plural_syntax.specs.Reading as spec
+use Rattle.plural_syntax.specs.Inside.Reading as spec
 use Rattle.plural_syntax.proofs.StmtRules.{statement_starts}
 use Rattle.plural_syntax.proofs.ScriptRules.{statement_rule_at}
 use Rattle.plural_syntax.proofs.Loops.{repeats_end, repeats_fail, repeats_go}

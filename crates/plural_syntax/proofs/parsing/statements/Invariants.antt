@@ -1,6 +1,6 @@
 use Rattle.std.proofs.Common.{◌≡◌, ◌≤◌, length}
 use Rattle.plural_syntax.specs.Words.{lexemes}
-use Rattle.plural_syntax.specs.Reading as spec
+use Rattle.plural_syntax.specs.Inside.Reading as spec
 use Rattle.plural_syntax.proofs.Readers.{prepend}
 use Rattle.plural_syntax.proofs.parsing.statements.Given as goal
 

@@ -1,7 +1,7 @@
 use Rattle.std.proofs.Common.{◌≡◌, ◌≤◌, length}
 use Rattle.plural_syntax.specs.declared.word.Word.TheVariants as w
 use Rattle.plural_syntax.specs.Words.{is, lexemes}
-use Rattle.plural_syntax.specs.Reading as spec
+use Rattle.plural_syntax.specs.Inside.Reading as spec
 use Rattle.plural_syntax.proofs.Readers.{prepend}
 use Rattle.plural_syntax.proofs.statements.items_after.Given as goal
 

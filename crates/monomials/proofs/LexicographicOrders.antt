@@ -53,12 +53,12 @@ graded_falling at ws m = weighted ws (drop at m) ∷ falling_values (weighted ws
 
 -- the numbers that a block's rows compare
 pub block_values : ℕ → Block → Monomial → List ℕ
-block_values at (Extra weights) m = weighted weights.items m ∷ []
+block_values at (Extra weights) m = weighted weights m ∷ []
 block_values at (Lex len) m = rising_values at len m
 block_values at (DegRev len) m = graded_falling at (replicate len 1) m
 block_values at (DegLex len) m = graded_rising at (replicate len 1) m
-block_values at (WeightRev weights) m = graded_falling at weights.items m
-block_values at (WeightLex weights) m = graded_rising at weights.items m
+block_values at (WeightRev weights) m = graded_falling at weights m
+block_values at (WeightLex weights) m = graded_rising at weights m
 
 pub blocks_values : ℕ → List Block → Monomial → List ℕ
 blocks_values at [] m = []
@@ -83,8 +83,8 @@ length-block_values at (Extra weights) a b = refl
 length-block_values at (Lex len) a b = length-rising_values at len a ∙ sym (length-rising_values at len b)
 length-block_values at (DegRev len) a b = length-graded_falling at (replicate len 1) a b
 length-block_values at (DegLex len) a b = length-graded_rising at (replicate len 1) a b
-length-block_values at (WeightRev weights) a b = length-graded_falling at weights.items a b
-length-block_values at (WeightLex weights) a b = length-graded_rising at weights.items a b
+length-block_values at (WeightRev weights) a b = length-graded_falling at weights a b
+length-block_values at (WeightLex weights) a b = length-graded_rising at weights a b
 
 length-blocks_values : (at : ℕ) (blocks : List Block) (a b : Monomial) → length (blocks_values at blocks a) ≡ length (blocks_values at blocks b)
 unfolding blocks_values
@@ -98,7 +98,7 @@ module _ (n : ℕ) (a b : Monomial) where
   block_same : (at : ℕ) (block : Block) → HasWeights block →
       rows_cmp (block_rows n at block) a b ≡ slice_cmp nat_cmp (block_values at block a) (block_values at block b)
   unfolding block_values graded_rising graded_falling
-  block_same at (Extra weights) w = ap (λ o. ordering_then o Equal) (compare_weights_row n 0 weights.items a b)
+  block_same at (Extra weights) w = ap (λ o. ordering_then o Equal) (compare_weights_row n 0 weights a b)
   block_same at (Lex len) w = rising_same n a b at len
   block_same at (DegRev len) w =
       let l : length {A = ℕ} (replicate len 1) ≡ len = length-replicate len 1 in
@@ -108,8 +108,8 @@ module _ (n : ℕ) (a b : Monomial) where
       let l : length {A = ℕ} (replicate len 1) ≡ len = length-replicate len 1 in
       (λ i. rows_cmp (ones_row n at len i ∷ first_first n at (sym l i)) a b)
       ∙ graded_rising_same n a b at (replicate len 1)
-  block_same at (WeightRev weights) w = graded_falling_same n a b at weights.items (weights_positive weights.items w)
-  block_same at (WeightLex weights) w = graded_rising_same n a b at weights.items
+  block_same at (WeightRev weights) w = graded_falling_same n a b at weights (weights_positive weights w)
+  block_same at (WeightLex weights) w = graded_rising_same n a b at weights
 
   blocks_same : (at : ℕ) (blocks : List Block) → AreWeighted blocks →
       rows_cmp (blocks_rows n at blocks) a b ≡ slice_cmp nat_cmp (blocks_values at blocks a) (blocks_values at blocks b)

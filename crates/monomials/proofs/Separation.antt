@@ -52,8 +52,8 @@ module _ (n : ℕ) (a b : Monomial) where
       ∙ (ap (λ q. rows_cmp (row_of (pos 1) n at len ∷ last_first n (at + 1) (q - 1)) a b) l ∙ e)) k low (omega (arith, l))
   block_equal at front (DegLex len) part weighted e k low high = rising_equal n a b at len (then_equal _ _ e).1 k low high
   block_equal at front (WeightRev weights) part weighted e k low high =
-      graded_falling_equal n a b at weights.items part (weights_positive weights.items weighted) e k low high
-  block_equal at front (WeightLex weights) part weighted e k low high = graded_rising_equal n a b at weights.items e k low high
+      graded_falling_equal n a b at weights part (weights_positive weights weighted) e k low high
+  block_equal at front (WeightLex weights) part weighted e k low high = graded_rising_equal n a b at weights e k low high
 
   blocks_equal : (at : ℕ) (front : Bool) (blocks : List Block) → AreParts n front blocks → AreWeighted blocks →
       rows_cmp (blocks_rows n at blocks) a b ≡ Equal → (k : ℕ) → at ≤ k → k < at + sum (map block_len blocks) →

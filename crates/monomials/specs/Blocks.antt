@@ -10,8 +10,8 @@ block_len (Extra weights) = 0
 block_len (Lex len) = len
 block_len (DegRev len) = len
 block_len (DegLex len) = len
-block_len (WeightRev weights) = length weights.items
-block_len (WeightLex weights) = length weights.items
+block_len (WeightRev weights) = length weights
+block_len (WeightLex weights) = length weights
 
 -- the row of n entries with z at the `len` variables behind the first `at`, and 0 elsewhere
 abbrev pub row_of : ℤ → ℕ → ℕ → ℕ → List ℤ
@@ -38,15 +38,15 @@ dp_rows n at len = row_of (pos 1) n at len ∷ last_first n (at + 1) (len - 1)
 -- a block's rows over n variables, of which it covers those behind the first `at`
 abbrev pub block_rows : ℕ → ℕ → Block → List (List ℤ)
 -- a: weights of the variables from the first on
-block_rows n at (Extra weights) = weights_row n 0 weights.items ∷ []
+block_rows n at (Extra weights) = weights_row n 0 weights ∷ []
 -- lp: the exponents, from the first variable to the last
 block_rows n at (Lex len) = first_first n at len
 block_rows n at (DegRev len) = dp_rows n at len
 -- Dp: the degree, and then as lp
 block_rows n at (DegLex len) = row_of (pos 1) n at len ∷ first_first n at len
 -- wp, Wp: the weighted degree, and then as dp and as lp
-block_rows n at (WeightRev weights) = weights_row n at weights.items ∷ last_first n (at + 1) (length weights.items - 1)
-block_rows n at (WeightLex weights) = weights_row n at weights.items ∷ first_first n at (length weights.items)
+block_rows n at (WeightRev weights) = weights_row n at weights ∷ last_first n (at + 1) (length weights - 1)
+block_rows n at (WeightLex weights) = weights_row n at weights ∷ first_first n at (length weights)
 
 -- the rows of blocks, one after another
 abbrev pub blocks_rows : ℕ → ℕ → List Block → List (List ℤ)
@@ -68,12 +68,12 @@ is_extra (WeightLex weights) = false
 
 -- A block covers a variable, and an `a` has 1 to n weights and stands in front of all blocks: `front` says that none is before it.
 abbrev pub IsPart : ℕ → Bool → Block → Type 0
-IsPart n front (Extra weights) = IsTrue front × (0 < length weights.items) × (length weights.items ≤ n)
+IsPart n front (Extra weights) = IsTrue front × (0 < length weights) × (length weights ≤ n)
 IsPart n front (Lex len) = 0 < len
 IsPart n front (DegRev len) = 0 < len
 IsPart n front (DegLex len) = 0 < len
-IsPart n front (WeightRev weights) = 0 < length weights.items
-IsPart n front (WeightLex weights) = 0 < length weights.items
+IsPart n front (WeightRev weights) = 0 < length weights
+IsPart n front (WeightLex weights) = 0 < length weights
 
 -- the same of each, where `front` says that no block is before the first
 abbrev pub AreParts : ℕ → Bool → List Block → Type 0
@@ -91,12 +91,12 @@ IsWeight w = (0 < w) × (w ≤ 65535)
 
 -- the weights are in range: those of `a` may be zero
 abbrev pub HasWeights : Block → Type 0
-HasWeights (Extra weights) = All (λ w. w ≤ 65535) weights.items
+HasWeights (Extra weights) = All (λ w. w ≤ 65535) weights
 HasWeights (Lex len) = Unit {0}
 HasWeights (DegRev len) = Unit {0}
 HasWeights (DegLex len) = Unit {0}
-HasWeights (WeightRev weights) = All IsWeight weights.items
-HasWeights (WeightLex weights) = All IsWeight weights.items
+HasWeights (WeightRev weights) = All IsWeight weights
+HasWeights (WeightLex weights) = All IsWeight weights
 
 -- the same of each block
 abbrev pub AreWeighted : List Block → Type 0

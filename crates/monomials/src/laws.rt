@@ -1,17 +1,18 @@
 //! Laws of orders and polynomials, each the contract of a function without a body.
 
-ghost use Rattle.std.specs.Prelude.{◌≡◌, ℕ, List, ℤ, IsTrue, length};
+ghost use Rattle.std.specs.Prelude.{◌≡◌, ℕ, List, [], ◌∷◌, ℤ, pos, negsuc, IsTrue, length};
 ghost use Rattle.std.specs.Int.Bits.{bit_and};
 ghost use Rattle.std.specs.Cmp.{IsTotalOrder};
-ghost use Rattle.std.specs.declared.cmp.Ordering.TheVariants.{Equal};
+ghost use Rattle.std.specs.declared.cmp.Ordering.TheVariants.{Equal, Greater};
 ghost use Rattle.monomials.specs.Monomials.{Monomial, plus, divides};
 ghost use Rattle.monomials.specs.Masks.{mask};
 ghost use Rattle.monomials.specs.Orders.{RowOrder, order_cmp};
 ghost use Rattle.monomials.specs.declared.order.Block.{Block};
+ghost use Rattle.monomials.specs.declared.order.Block.TheVariants.{WeightRev};
 ghost use Rattle.monomials.specs.Blocks.{AreWeighted, Covers, order_of};
 ghost use Rattle.monomials.specs.ExtraRows.{with_rows};
 ghost use Rattle.monomials.specs.WellFounded.{IsWellFounded, IsDescent};
-ghost use Rattle.monomials.specs.Polynomials.{Polynomial, IsPolynomial, coefficient_at};
+ghost use Rattle.monomials.specs.Polynomials.{Polynomial, Each, IsPolynomial, coefficient_at};
 
 use crate::order::Order;
 
@@ -54,4 +55,16 @@ pub fn coefficients_decide()
     ensures { (p : ℕ) (order : RowOrder) (f g : Polynomial) →
         IsPolynomial p order f → IsPolynomial p order g →
         ((m : Monomial) → coefficient_at m f ≡ coefficient_at m g) → f ≡ g }
+{}
+
+/// The first term of a sorted polynomial is the greatest.
+pub fn first_term_is_greatest()
+    ensures { (p : ℕ) (order : RowOrder) (t : ℕ × Monomial) (f : Polynomial) → IsPolynomial p order (t ∷ f) →
+        Each (λ u. order_cmp order.rows t.1 u.1 ≡ Greater) f }
+{}
+
+/// Definitions make blocks from numbers: the rows of `wp(2,1)`.
+pub fn blocks_are_made_of_numbers()
+    ensures { (order_of 2 (WeightRev (2 ∷ 1 ∷ []) ∷ [])).rows
+        ≡ ((pos 2 ∷ pos 1 ∷ []) ∷ (pos 0 ∷ negsuc 0 ∷ []) ∷ []) }
 {}

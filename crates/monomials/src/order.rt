@@ -9,6 +9,7 @@ ghost use Rattle.monomials.specs.Blocks.{block_len, block_rows, first_first, las
 ghost use Rattle.monomials.specs.ExtraRows.{marks, with_rows};
 ghost use Rattle.monomials.specs.Rows.{row_entries, IsWithin, AddsRows};
 
+use crate::block_weights::BlockWeights;
 use crate::expo::Expo;
 use crate::row::Row;
 use std::alloc::{AllocError, Global};
@@ -20,7 +21,7 @@ use std::marker::Model;
 #[derive(Debug, PartialEq, Eq, Drop)]
 pub enum Block {
     /// `a`: by these weights of the variables from the first on.
-    Extra { weights: Vec<u64> },
+    Extra { weights: BlockWeights },
     /// `lp`: lexicographically.
     Lex { len: usize },
     /// `dp`: by degree, and then reverse lexicographically.
@@ -28,9 +29,9 @@ pub enum Block {
     /// `Dp`: by degree, and then lexicographically.
     DegLex { len: usize },
     /// `wp`: by weighted degree, and then reverse lexicographically.
-    WeightRev { weights: Vec<u64> },
+    WeightRev { weights: BlockWeights },
     /// `Wp`: by weighted degree, and then lexicographically.
-    WeightLex { weights: Vec<u64> },
+    WeightLex { weights: BlockWeights },
 }
 
 /// Why blocks are no order.
@@ -86,7 +87,7 @@ impl Block {
         match self {
             Block::Extra { .. } => 0,
             Block::Lex { len } | Block::DegRev { len } | Block::DegLex { len } => *len,
-            Block::WeightRev { weights } | Block::WeightLex { weights } => weights.len(),
+            Block::WeightRev { weights } | Block::WeightLex { weights } => weights.as_slice().len(),
         }
     }
 
@@ -108,9 +109,14 @@ impl Block {
         ensures { IsTrue result ↔ IsPart n front self.now }
     {
         match self {
-            Block::Extra { weights } => front && 0 < weights.len() && weights.len() <= n,
+            Block::Extra { weights } => {
+                let count = weights.as_slice().len();
+                front && 0 < count && count <= n
+            }
             Block::Lex { len } | Block::DegRev { len } | Block::DegLex { len } => 0 < *len,
-            Block::WeightRev { weights } | Block::WeightLex { weights } => 0 < weights.len(),
+            Block::WeightRev { weights } | Block::WeightLex { weights } => {
+                !weights.as_slice().is_empty()
+            }
         }
     }
 
@@ -119,10 +125,10 @@ impl Block {
         ensures { IsTrue result ↔ HasWeights self.now }
     {
         match self {
-            Block::Extra { weights } => weights.iter().all(|w| *w <= 65535),
+            Block::Extra { weights } => weights.as_slice().iter().all(|w| *w <= 65535),
             Block::Lex { .. } | Block::DegRev { .. } | Block::DegLex { .. } => true,
             Block::WeightRev { weights } | Block::WeightLex { weights } => {
-                weights.iter().all(|w| 0 < *w && *w <= 65535)
+                weights.as_slice().iter().all(|w| 0 < *w && *w <= 65535)
             }
         }
     }
@@ -137,7 +143,7 @@ impl Block {
     {
         match self {
             Block::Extra { weights } => {
-                rows.push(Row::weighted_in(0, weights))?;
+                rows.push(Row::weighted_in(0, weights.as_slice()))?;
                 Ok(())
             }
             Block::Lex { len } => push_rising(rows, at, *len),
@@ -150,10 +156,12 @@ impl Block {
                 push_rising(rows, at, *len)
             }
             Block::WeightRev { weights } => {
+                let weights = weights.as_slice();
                 rows.push(Row::weighted_in(at, weights))?;
                 push_falling(rows, at + 1, weights.len() - 1)
             }
             Block::WeightLex { weights } => {
+                let weights = weights.as_slice();
                 rows.push(Row::weighted_in(at, weights))?;
                 push_rising(rows, at, weights.len())
             }

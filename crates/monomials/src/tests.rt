@@ -1,6 +1,6 @@
 ghost use Rattle.std.specs.Prelude.{◌≡◌, ◌≤◌, length};
 
-use crate::{Block, Expo, Order, OrderFault};
+use crate::{Block, BlockWeights, Expo, Order, OrderFault};
 use std::alloc::{AllocError, Global};
 use std::cmp::Ordering;
 use std::test::Fail;
@@ -23,25 +23,25 @@ fn blocks(alloc: Global, name: &str) -> Result<Vec<Block>, AllocError> {
         "Dp" => vec![in alloc; Block::DegLex { len: 3 }]?,
         "wp(2,3,1)" => vec![in alloc;
             Block::WeightRev {
-                weights: vec![in alloc; 2, 3, 1]?
+                weights: BlockWeights::of(vec![in alloc; 2, 3, 1]?)
             },
         ]?,
         "Wp(2,3,1)" => vec![in alloc;
             Block::WeightLex {
-                weights: vec![in alloc; 2, 3, 1]?
+                weights: BlockWeights::of(vec![in alloc; 2, 3, 1]?)
             },
         ]?,
         "a(0,0,1),dp" => {
-            let weights = vec![in alloc; 0, 0, 1]?;
+            let weights = BlockWeights::of(vec![in alloc; 0, 0, 1]?);
             vec![in alloc; Block::Extra { weights }, Block::DegRev { len: 3 }]?
         }
         "lp(1),dp(2)" => vec![in alloc; Block::Lex { len: 1 }, Block::DegRev { len: 2 }]?,
         _ => {
             let extra = Block::Extra {
-                weights: vec![in alloc; 1]?,
+                weights: BlockWeights::of(vec![in alloc; 1]?),
             };
             let weighted = Block::WeightRev {
-                weights: vec![in alloc; 1, 1]?,
+                weights: BlockWeights::of(vec![in alloc; 1, 1]?),
             };
             vec![in alloc; extra, weighted, Block::Lex { len: 1 }]?
         }
@@ -99,13 +99,13 @@ fn blocks_cover_the_variables(rt: HostRuntime) -> Result<(), Fail> {
     let late = [
         Block::Lex { len: 2 },
         Block::Extra {
-            weights: vec![in alloc; 1]?,
+            weights: BlockWeights::of(vec![in alloc; 1]?),
         },
     ];
     assert!(rt; matches!(Order::new(alloc, &late, 2), Err(OrderFault::Cover)));
     let long = [
         Block::Extra {
-            weights: vec![in alloc; 1, 1, 1]?,
+            weights: BlockWeights::of(vec![in alloc; 1, 1, 1]?),
         },
         Block::Lex { len: 2 },
     ];
@@ -117,18 +117,26 @@ fn blocks_cover_the_variables(rt: HostRuntime) -> Result<(), Fail> {
 fn weights_are_in_range(rt: HostRuntime) -> Result<(), Fail> {
     let alloc = rt.alloc();
     let zero = [Block::WeightRev {
-        weights: vec![in alloc; 1, 0]?,
+        weights: BlockWeights::of(vec![in alloc; 1, 0]?),
     }];
     assert!(rt; matches!(Order::new(alloc, &zero, 2), Err(OrderFault::Weight)));
     assert!(rt; matches!(Order::new(alloc, &zero, 3), Err(OrderFault::Cover)));
     let great = [Block::WeightLex {
-        weights: vec![in alloc; 65536, 1]?,
+        weights: BlockWeights::of(vec![in alloc; 65536, 1]?),
     }];
     assert!(rt; matches!(Order::new(alloc, &great, 2), Err(OrderFault::Weight)));
     let greatest = [Block::WeightLex {
-        weights: vec![in alloc; 65535, 1]?,
+        weights: BlockWeights::of(vec![in alloc; 65535, 1]?),
     }];
     assert!(rt; Order::new(alloc, &greatest, 2).is_ok());
+    Ok(())
+}
+
+#[test]
+fn weights_keep_their_numbers(rt: HostRuntime) -> Result<(), Fail> {
+    let weights = BlockWeights::of(vec![in rt.alloc(); 2, 3]?);
+    assert_eq!(rt; weights.as_slice(), &[2, 3]);
+    assert_eq!(rt; weights.into_vec().as_slice(), &[2, 3]);
     Ok(())
 }
 
@@ -137,7 +145,7 @@ fn a_row_of_zeros_says_nothing(rt: HostRuntime) -> Result<(), Fail> {
     let alloc = rt.alloc();
     let blocks = [
         Block::Extra {
-            weights: vec![in alloc; 0, 0]?,
+            weights: BlockWeights::of(vec![in alloc; 0, 0]?),
         },
         Block::Lex { len: 2 },
     ];

@@ -75,12 +75,12 @@ fn write_block(text: &mut Vec<u8>, block: &Block) -> Result<(), AllocError>
     ensures { OnOk result (text.new.items ≡ text.old.items ++ block_text block.now) }
 {
     match block {
-        Block::Extra { weights } => write_named(text, b"a", weights),
+        Block::Extra { weights } => write_named(text, b"a", weights.as_slice()),
         Block::Lex { len } => write_named(text, b"lp", &[*len as u64]),
         Block::DegRev { len } => write_named(text, b"dp", &[*len as u64]),
         Block::DegLex { len } => write_named(text, b"Dp", &[*len as u64]),
-        Block::WeightRev { weights } => write_named(text, b"wp", weights),
-        Block::WeightLex { weights } => write_named(text, b"Wp", weights),
+        Block::WeightRev { weights } => write_named(text, b"wp", weights.as_slice()),
+        Block::WeightLex { weights } => write_named(text, b"Wp", weights.as_slice()),
     }
 }
 

@@ -15,12 +15,12 @@ numbers_text numbers = codes "(" ++ (join_with_byte 44 (map decimal numbers) ++ 
 
 -- a block: its name, and its weights or how many variables it covers
 abbrev pub block_text : Block → List ℕ
-block_text (Extra weights) = codes "a" ++ numbers_text weights.items
+block_text (Extra weights) = codes "a" ++ numbers_text weights
 block_text (Lex len) = codes "lp" ++ numbers_text (len ∷ [])
 block_text (DegRev len) = codes "dp" ++ numbers_text (len ∷ [])
 block_text (DegLex len) = codes "Dp" ++ numbers_text (len ∷ [])
-block_text (WeightRev weights) = codes "wp" ++ numbers_text weights.items
-block_text (WeightLex weights) = codes "Wp" ++ numbers_text weights.items
+block_text (WeightRev weights) = codes "wp" ++ numbers_text weights
+block_text (WeightLex weights) = codes "Wp" ++ numbers_text weights
 
 -- an order, by its blocks
 abbrev pub order_text : List Block → List ℕ

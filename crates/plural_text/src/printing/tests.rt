@@ -9,7 +9,7 @@ use super::*;
 use crate::ring_text;
 use algebra::Relations;
 use gpoly::Term;
-use monomials::{Block, Expo, Order};
+use monomials::{Block, BlockWeights, Expo, Order};
 use prime_field::Field;
 use std::test::Fail;
 
@@ -100,6 +100,7 @@ fn block(alloc: Global, text: &str) -> Result<Block, Fail> {
         weights.push(number.parse::<u64>()?)?;
     }
     let len = weights.len();
+    let weights = BlockWeights::of(weights);
     Ok(match name {
         "a" => Block::Extra { weights },
         "wp" => Block::WeightRev { weights },

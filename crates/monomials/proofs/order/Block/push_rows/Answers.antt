@@ -9,8 +9,8 @@ pub returns-in_ok-push-in-Extra : goal.returns-in_ok-push-in-Extra
 returns-in_ok-push-in-Extra c =
     let n : ℕ = c.args.n in
     let part : (front : Bool) × IsPart n front (Extra c.in-Extra.weights) = rw c.in-Extra.is at c.requires.part in
-    let items = c.deref.ensures.value in
-    let inside : 0 + length c.deref.result.now ≤ n = omega (arith, ap length items, part.1.2) in
+    let items = c.as_slice.ensures in
+    let inside : 0 + length c.as_slice.result.now ≤ n = omega (arith, ap length items, part.1.2) in
     rw c.in-Extra.is
     (adds_one n _ _ _ _ c.in_ok-push-in-Extra.ensures.items
     (c.weighted_in.ensures.entries n inside c.requires.few ∙ ap (λ ws. weights_row n 0 ws) items) (c.weighted_in.ensures.within n))
@@ -42,11 +42,10 @@ pub returns-in_ok-push-in-WeightRev : goal.returns-in_ok-push-in-WeightRev
 returns-in_ok-push-in-WeightRev c =
     let n : ℕ = c.args.n in
     let part : (front : Bool) × IsPart n front (WeightRev c.in-WeightRev.weights) = rw c.in-WeightRev.is at c.requires.part in
-    let fits : c.args.at + length c.in-WeightRev.weights.items ≤ n = rw c.in-WeightRev.is at c.requires.fits in
-    let items = c.deref-in-WeightRev.ensures.value in
-    let inside : c.args.at + length c.deref-in-WeightRev.result.now ≤ n = omega (arith, ap length items, fits) in
-    let len : c.len.result ≡ length c.in-WeightRev.weights.items =
-    omega (arith, c.len.ensures, c.deref-in-WeightRev.ensures.len, ap length items) in
+    let fits : c.args.at + length c.in-WeightRev.weights ≤ n = rw c.in-WeightRev.is at c.requires.fits in
+    let items : c.as_slice-weights.result.now ≡ c.in-WeightRev.weights = c.as_slice-weights.ensures in
+    let len : length c.as_slice-weights.result.now ≡ length c.in-WeightRev.weights = ap length items in
+    let inside : c.args.at + length c.as_slice-weights.result.now ≤ n = omega (arith, len, fits) in
     rw c.in-WeightRev.is
     (on_ok_weaker c.push_falling-in-WeightRev.result
     (λ more.
@@ -59,11 +58,10 @@ returns-in_ok-push-in-WeightRev c =
 pub returns-in_ok-push-in-WeightLex : goal.returns-in_ok-push-in-WeightLex
 returns-in_ok-push-in-WeightLex c =
     let n : ℕ = c.args.n in
-    let fits : c.args.at + length c.in-WeightLex.weights.items ≤ n = rw c.in-WeightLex.is at c.requires.fits in
-    let items = c.deref-in-WeightLex.ensures.value in
-    let inside : c.args.at + length c.deref-in-WeightLex.result.now ≤ n = omega (arith, ap length items, fits) in
-    let len : c.len-in-WeightLex.result ≡ length c.in-WeightLex.weights.items =
-    omega (arith, c.len-in-WeightLex.ensures, c.deref-in-WeightLex.ensures.len, ap length items) in
+    let fits : c.args.at + length c.in-WeightLex.weights ≤ n = rw c.in-WeightLex.is at c.requires.fits in
+    let items : c.as_slice-weights-in-WeightLex.result.now ≡ c.in-WeightLex.weights = c.as_slice-weights-in-WeightLex.ensures in
+    let len : length c.as_slice-weights-in-WeightLex.result.now ≡ length c.in-WeightLex.weights = ap length items in
+    let inside : c.args.at + length c.as_slice-weights-in-WeightLex.result.now ≤ n = omega (arith, len, fits) in
     rw c.in-WeightLex.is
     (on_ok_weaker c.push_rising-in-WeightLex.result
     (λ more.

@@ -135,8 +135,8 @@ fn weights_are_in_range(rt: HostRuntime) -> Result<(), Fail> {
 #[test]
 fn weights_keep_their_numbers(rt: HostRuntime) -> Result<(), Fail> {
     let weights = BlockWeights::of(vec![in rt.alloc(); 2, 3]?);
-    assert_eq!(rt; weights.as_slice(), &[2, 3]);
-    assert_eq!(rt; weights.into_vec().as_slice(), &[2, 3]);
+    assert_eq!(rt; weights.as_slice(), [2, 3].as_slice());
+    assert_eq!(rt; weights.into_vec().as_slice(), [2, 3].as_slice());
     Ok(())
 }
 

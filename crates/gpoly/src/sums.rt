@@ -1,9 +1,9 @@
 //! Sums of terms that were sorted.
 
-ghost use Rattle.std.specs.Prelude.{◌≡◌, ◌<◌, IfOk, OnOk, List, reverse, ℤ};
+ghost use Rattle.std.specs.Prelude.{◌≡◌, ℕ, ◌<◌, IsTrue, IfOk, OnOk, List, length, reverse, ℤ};
 ghost use Rattle.std.specs.List.Sorted.{IsPermutation};
 ghost use Rattle.monomials.specs.Orders.{order_cmp};
-ghost use Rattle.monomials.specs.Polynomials.{HasNumbers, HasVars, insert_term, from_terms};
+ghost use Rattle.monomials.specs.Polynomials.{HasNumbers, HasVars, IsAbove, IsCanonical, insert_term, from_terms};
 ghost use Rattle.gpoly.specs.Terms.{pairs_of};
 ghost use Rattle.gpoly.specs.Sorting.{rank_cmp, IsNotBelow, IsFalling};
 
@@ -26,10 +26,43 @@ pub fn summed(
         ≡ from_terms (order_cmp order.now.rows) field (pairs_of terms.now)) }
 {
     let _p = field.p();
+    if falls(order, terms) {
+        return Vec::from_slice(alloc, terms);
+    }
     let rising = rising_terms(alloc, order, terms)?;
     let mut sums = rising_sums(alloc, field, &rising)?;
     sums.reverse();
     Ok(sums)
+}
+
+// Whether no number is zero and each monomial is above the next, so that the terms are their sum.
+fn falls(order: &Order, terms: &[Term]) -> bool
+    requires { HasVars order.now.vars (pairs_of terms.now) }
+    ensures { IsTrue result → (p : ℕ) → HasNumbers p (pairs_of terms.now) →
+        IsCanonical (order_cmp order.now.rows) p (pairs_of terms.now) }
+{
+    let mut left = terms;
+    while let Some((term, rest)) = left.split_first() {
+        if !is_first(order, term, rest) {
+            return false;
+        }
+        left = rest;
+    }
+    true
+}
+
+// Whether the number is not zero and the monomial is above the first of the rest.
+fn is_first(order: &Order, term: &Term, rest: &[Term]) -> bool
+    requires term { length term.now.mono ≡ order.now.vars }
+    requires rest { HasVars order.now.vars (pairs_of rest.now) }
+    ensures { IsTrue result → (0 < term.now.coef)
+        × IsAbove (order_cmp order.now.rows) term.now.mono (pairs_of rest.now) }
+{
+    let above = match rest.first() {
+        Some(next) => order.compare(&term.mono, &next.mono) == Ordering::Greater,
+        None => true,
+    };
+    above && term.coef != 0
 }
 
 // The terms with the greatest monomial first.

@@ -1,7 +1,10 @@
-use Rattle.std.proofs.Common.{◌<◌, ◌∙◌, sym, ap, subst, arith, List, reverse}
+use Rattle.std.proofs.Common.{◌<◌, ◌∙◌, sym, ap, subst, arith, List, ℤ, reverse}
 use Rattle.std.proofs.lemmas.List.Sorted.{IsPermutation-map}
+use Rattle.std.proofs.lemmas.Result.{IfOk-weaker}
 use Rattle.monomials.specs.Orders.{order_cmp}
-use Rattle.monomials.specs.Polynomials.{HasNumbers, from_terms}
+use Rattle.monomials.specs.Polynomials.{HasNumbers, IsCanonical, from_terms}
+use Rattle.monomials.proofs.Merge.{poly_add-nil}
+use Rattle.monomials.proofs.OrderLaws.{order_cmp_total, order_cmp_tied}
 use Rattle.gpoly.specs.declared.Term.{Term}
 use Rattle.gpoly.specs.Terms.{pair_of, pairs_of}
 use Rattle.gpoly.specs.Sorting.{IsFalling}
@@ -26,3 +29,13 @@ returns c =
     c.in_ok-rising.ensures.moved
     (c.in_ok-sums.ensures c.args.order.now.rows falls
     ∙ ap (λ (ts : List Term). from_terms (order_cmp c.args.order.now.rows) c.args.field (reverse (pairs_of ts))) c.deref.ensures.value)
+
+-- terms that fall already are their sum
+pub returns-then-falls : goal.returns-then-falls
+returns-then-falls c =
+    let rows : List (List ℤ) = c.args.order.now.rows in
+    let pos : 0 < c.args.field = omega (arith, c.p-p.ensures.prime.above_one) in
+    let canonical : IsCanonical (order_cmp rows) c.args.field (pairs_of c.args.terms.now) = c.falls.ensures c.if-falls.true c.args.field c.requires.numbers in
+    IfOk-weaker c.from_slice.result _ _
+    (λ sums e. ap pairs_of e ∙ sym (poly_add-nil (order_cmp rows) (order_cmp_total rows) (order_cmp_tied rows) c.args.field pos (pairs_of c.args.terms.now) canonical))
+    c.from_slice.ensures.items

@@ -70,11 +70,13 @@ first_same (w ∷ ws) a b some h e alike =
 
 -- ---- rows that compare as equal
 
+-- what ties behind an ordering ties with it
 pub then_equal : (o p : Ordering) → ordering_then o p ≡ Equal → (o ≡ Equal) × (p ≡ Equal)
 then_equal Less p e = cc
 then_equal Equal p e = (refl, e)
 then_equal Greater p e = cc
 
+-- equal numbers alone tie
 pub nat_cmp_equal : (x y : ℕ) → nat_cmp x y ≡ Equal → x ≡ y
 nat_cmp_equal x y e = ranked x y Equal (sym e)
 

@@ -33,7 +33,8 @@ order_cmp_tied rows a b e = slice_cmp_tied a b (second_tied (rows_cmp rows a b) 
     second_tied Equal r e = e
     second_tied Greater r e = cc
 
-times_sum : (r : ℤ) (x y : ℕ) → r *ℤ pos (x + y) ≡ (r *ℤ pos x) +ℤ (r *ℤ pos y)
+-- multiples add up
+pub times_sum : (r : ℤ) (x y : ℕ) → r *ℤ pos (x + y) ≡ (r *ℤ pos x) +ℤ (r *ℤ pos y)
 times_sum r x y = omega (arith, ints)
 
 regroup : (a b c d : ℤ) → (a +ℤ b) +ℤ (c +ℤ d) ≡ (a +ℤ c) +ℤ (b +ℤ d)

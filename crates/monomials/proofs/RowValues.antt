@@ -1,7 +1,7 @@
 -- The values of rows at monomials.
 use Rattle.std.proofs.Common.{◌≡◌, ℕ, zero, suc, ◌+◌, ◌-◌, ◌*◌, ◌≤◌, ◌<◌, List, [], ◌∷◌, length, ◌++◌, replicate, map, sum, take, drop, get_or, arith, refl, sym, ◌∙◌, ap, inl, inr, ℤ, pos, negsuc, ◌+ℤ◌, ◌*ℤ◌, neg_ℤ}
 use Rattle.std.specs.Ordering.{nat_cmp, int_cmp}
-use Rattle.std.proofs.Math.IntN.{zero-*ℤ, *ℤ-zero, negsuc-*ℤ-pos, neg_ℤ-+ℤ, +ℤ_idl, +ℤ_idr}
+use Rattle.std.proofs.Math.IntN.{zero-*ℤ, *ℤ-zero, negsuc-*ℤ-pos, +ℤ_idl, +ℤ_idr}
 use Rattle.std.proofs.lemmas.Bool.{cases_lt}
 use Rattle.std.proofs.lemmas.Bool.Decides.{nat_tests}
 use Rattle.std.proofs.lemmas.Int.{ints}
@@ -14,6 +14,7 @@ use Rattle.monomials.specs.Blocks.{row_of, weights_row}
 use Rattle.monomials.specs.Rows.{weighted}
 use Rattle.monomials.specs.Words.{spread}
 use Rattle.monomials.specs.Padded.{IsPadded, exponents, sixteen, zeros}
+use Rattle.monomials.proofs.OrderLaws.{times_sum}
 use Rattle.monomials.proofs.Packing.{lanes_total}
 use Rattle.monomials.specs.declared.expo.Expo.TheInside.{Inside}
 use Rattle.monomials.proofs.Exponents.{take-zip_with, length-zip_with, get_or-zip_with, sum-zeros}
@@ -28,15 +29,6 @@ row_value-map_pos [] m = refl
 row_value-map_pos (w ∷ ws) [] = refl
 row_value-map_pos (w ∷ ws) (e ∷ m) = rw (row_value-map_pos ws m, weighted-cons w e ws m)
 
--- multiples add up
-pub *ℤ-pos-plus : (x : ℤ) (y z : ℕ) → x *ℤ pos (y + z) ≡ (x *ℤ pos y) +ℤ (x *ℤ pos z)
-*ℤ-pos-plus (pos n) y z = ap pos (omega arith)
-*ℤ-pos-plus (negsuc n) y z =
-    let e : suc n * (y + z) ≡ suc n * y + suc n * z = omega arith in
-    negsuc-*ℤ-pos n (y + z)
-    ∙ (ap (λ m. neg_ℤ (pos m)) e ∙ (neg_ℤ-+ℤ (pos (suc n * y)) (pos (suc n * z))
-    ∙ (ap (λ m. m +ℤ neg_ℤ (pos (suc n * z))) (sym (negsuc-*ℤ-pos n y)) ∙ ap (λ m. (negsuc n *ℤ pos y) +ℤ m) (sym (negsuc-*ℤ-pos n z)))))
-
 -- the value of a row in two parts, each at its own variables
 pub row_value-append : (rs ss : List ℤ) (m : List ℕ) → row_value (rs ++ ss) m ≡ row_value rs m +ℤ row_value ss (drop (length rs) m)
 row_value-append [] ss m = sym (+ℤ_idl (row_value ss m))
@@ -49,7 +41,7 @@ pub row_value-replicate : (z : ℤ) (n : ℕ) (m : List ℕ) → row_value (repl
 row_value-replicate z zero m = sym (*ℤ-zero z)
 row_value-replicate z (suc n) [] = sym (*ℤ-zero z)
 row_value-replicate z (suc n) (e ∷ m) =
-    rw (row_value-replicate z n m) (sym (ap (λ x. z *ℤ pos x) (sum_by-cons (λ x. x) e (take n m)) ∙ *ℤ-pos-plus z e (sum (take n m))))
+    rw (row_value-replicate z n m) (sym (ap (λ x. z *ℤ pos x) (sum_by-cons (λ x. x) e (take n m)) ∙ times_sum z e (sum (take n m))))
 
 row_value-zeros : (n : ℕ) (m : List ℕ) → row_value (replicate n (pos 0)) m ≡ pos 0
 row_value-zeros n m = row_value-replicate (pos 0) n m ∙ zero-*ℤ (pos (sum (take n m)))

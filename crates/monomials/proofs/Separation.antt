@@ -16,7 +16,7 @@ use Rattle.monomials.specs.Separating.{IsSeparating}
 use Rattle.monomials.specs.ExtraRows.{with_rows}
 use Rattle.monomials.specs.declared.order.Block.{Block}
 use Rattle.monomials.specs.declared.order.Block.TheVariants.{Extra, Lex, DegRev, DegLex, WeightRev, WeightLex}
-use Rattle.monomials.proofs.GradedRows.{then_equal, IsPositive, rising_equal, graded_rising_equal, graded_falling_equal, ones_row, ones_positive}
+use Rattle.monomials.proofs.GradedRows.{IsPositive, then_equal, rising_equal, graded_rising_equal, graded_falling_equal, ones_row, ones_positive}
 
 -- the rows of `dp` in two variables
 pub dp_two : (order_of 2 (DegRev 2 ∷ [])).rows ≡ (pos 1 ∷ pos 1 ∷ []) ∷ (pos 0 ∷ negsuc 0 ∷ []) ∷ []

@@ -3,7 +3,7 @@ use Rattle.std.proofs.lemmas.List.Sorted.{IsPermutation-map}
 use Rattle.std.proofs.lemmas.Result.{IfOk-weaker}
 use Rattle.monomials.specs.Orders.{order_cmp}
 use Rattle.monomials.specs.Polynomials.{HasNumbers, IsCanonical, from_terms}
-use Rattle.monomials.proofs.Merge.{poly_add-nil}
+use Rattle.monomials.proofs.Canonical.{from_terms-canonical}
 use Rattle.monomials.proofs.OrderLaws.{order_cmp_total, order_cmp_tied}
 use Rattle.gpoly.specs.declared.Term.{Term}
 use Rattle.gpoly.specs.Terms.{pair_of, pairs_of}
@@ -37,5 +37,5 @@ returns-then-falls c =
     let pos : 0 < c.args.field = omega (arith, c.p-p.ensures.prime.above_one) in
     let canonical : IsCanonical (order_cmp rows) c.args.field (pairs_of c.args.terms.now) = c.falls.ensures c.if-falls.true c.args.field c.requires.numbers in
     IfOk-weaker c.from_slice.result _ _
-    (λ sums e. ap pairs_of e ∙ sym (poly_add-nil (order_cmp rows) (order_cmp_total rows) (order_cmp_tied rows) c.args.field pos (pairs_of c.args.terms.now) canonical))
+    (λ sums e. ap pairs_of e ∙ sym (from_terms-canonical (order_cmp rows) (order_cmp_total rows) (order_cmp_tied rows) c.args.field pos (pairs_of c.args.terms.now) canonical))
     c.from_slice.ensures.items

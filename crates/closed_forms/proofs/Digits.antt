@@ -4,7 +4,8 @@ use Rattle.std.proofs.Math.Nat.{div-mul-le_self, mod-le, mod_self, one-le-pow, p
 use Rattle.std.proofs.lemmas.Nat.{le-div}
 use Rattle.monomials.proofs.Modulo.{same_rest}
 use Rattle.word_model.specs.Conditions.{IsField}
-use Rattle.closed_forms.specs.Binomials.{q_number, gaussian, table, IsFree, IsBase}
+use Rattle.closed_forms.specs.Binomials.{q_number, gaussian}
+use Rattle.closed_forms.specs.Inside.Tables.{table, IsFree, IsBase}
 use Rattle.closed_forms.proofs.Pascal.{gaussian-above}
 use Rattle.closed_forms.proofs.Residues.{same_times}
 use Rattle.closed_forms.proofs.Tables.{length-table, at_table, past_table}

@@ -11,3 +11,4 @@ pub mod Digits
 pub mod Numbers
 pub mod Shape
 pub mod PairKinds
+mod WeylNumbers

@@ -4,7 +4,8 @@ use Rattle.std.proofs.Common.{◌≡◌, ℕ, zero, suc, ◌+◌, ◌-◌, ◌*�
 use Rattle.std.proofs.Math.Nat.{pow-zero, pow-succ', div-add-mod, div-eq_of_lt}
 use Rattle.monomials.proofs.Modulo.{Same, same_refl, same_add, same_mul, same_mul_right, same_rest}
 use Rattle.word_model.specs.Conditions.{NonZero, IsField}
-use Rattle.closed_forms.specs.Binomials.{q_number, gaussian, IsFree, IsBase}
+use Rattle.closed_forms.specs.Binomials.{q_number, gaussian}
+use Rattle.closed_forms.specs.Inside.Tables.{IsFree, IsBase}
 use Rattle.closed_forms.proofs.Pascal.{gaussian-above, binomial-step}
 use Rattle.closed_forms.proofs.Residues.{same_times}
 

@@ -13,7 +13,8 @@ use Rattle.closed_forms.specs.declared.PairKind.TheVariants.{Commuting, Quasi, W
 use Rattle.closed_forms.specs.Kinds.{number_of, polynomial_of, HasKind}
 use Rattle.closed_forms.specs.Forms.{Powers, Terms, sum_of_terms, weyl_number, weyl_form, binomial_number, closed_form, in_algebra}
 use Rattle.closed_forms.proofs.Sums.{sum_below, sum_below_equal, sum_below-cut, weigh-sum_of_terms}
-use Rattle.closed_forms.proofs.Pascal.{one_pow, weyl_number-above, weyl_number-beyond}
+use Rattle.closed_forms.proofs.Pascal.{one_pow}
+use Rattle.closed_forms.proofs.WeylNumbers.{weyl_number-above, weyl_number-beyond}
 use Rattle.closed_forms.proofs.Shifts.{shifted, binomial_theorem}
 use Rattle.closed_forms.proofs.Passing.{weight-sorted, IsWeylRule, weyl_rule, left_rule, right_rule}
 use Rattle.closed_forms.proofs.Powers.{before_powers, sorted_powers, weyl_weight, weyl_powers, quasi_powers, left_powers, right_powers}

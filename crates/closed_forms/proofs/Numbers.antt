@@ -2,8 +2,9 @@
 use Rattle.std.proofs.Common.{◌≡◌, ℕ, zero, suc, ◌+◌, ◌-◌, ◌*◌, ◌%◌, ◌^◌, refl, sym, ap, ◌∙◌, arith}
 use Rattle.std.proofs.Math.Nat.{pow-suc, pow-succ'}
 use Rattle.monomials.proofs.Modulo.{Same, same_refl, same_mul, same_mul_right, same_rest}
-use Rattle.closed_forms.specs.Binomials.{q_number, gaussian, falling_product}
-use Rattle.closed_forms.specs.Forms.{weyl_number, binomial_number}
+use Rattle.closed_forms.specs.Binomials.{q_number, gaussian}
+use Rattle.closed_forms.proofs.Pascal.{falling_product, falling_number}
+use Rattle.closed_forms.specs.Forms.{binomial_number}
 use Rattle.closed_forms.proofs.Residues.{same_times, same_pow}
 
 -- the last factor of a falling product
@@ -20,9 +21,9 @@ rests : (p x y : ℕ) → Same p ((x % p) * (y % p)) (x * y)
 rests p x y = same_times p _ _ _ _ (same_rest p x) (same_rest p y)
 
 -- the number at k, by its three parts
-pub weyl_entry : (p q d a b k f y g : ℕ) → f ≡ (d ^ k * falling_product q a k) % p → y ≡ q ^ ((a - k) * (b - k)) % p → g ≡ gaussian q b k % p
-    → (f * ((y * g) % p)) % p ≡ weyl_number q d a b k % p
-weyl_entry p q d a b k f y g ef ey eg =
+pub falling_entry : (p q d a b k f y g : ℕ) → f ≡ (d ^ k * falling_product q a k) % p → y ≡ q ^ ((a - k) * (b - k)) % p → g ≡ gaussian q b k % p
+    → (f * ((y * g) % p)) % p ≡ falling_number q d a b k % p
+falling_entry p q d a b k f y g ef ey eg =
     let x : ℕ = q ^ ((a - k) * (b - k)) in
     rw (ef, ey, eg)
     (same_times p _ _ _ _ (same_rest p (d ^ k * falling_product q a k)) (same_rest p ((x % p) * (gaussian q b k % p)) ∙ rests p x (gaussian q b k))
@@ -32,9 +33,9 @@ weyl_entry p q d a b k f y g ef ey eg =
     collect d f x g = omega arith
 
 -- from δ^k [a]_q .. [a-k+1]_q to the next
-pub weyl_factor : (p q d a k f m : ℕ) → f ≡ (d ^ k * falling_product q a k) % p → m ≡ q_number q (a - k) % p
+pub falling_factor : (p q d a k f m : ℕ) → f ≡ (d ^ k * falling_product q a k) % p → m ≡ q_number q (a - k) % p
     → (f * ((d * m) % p)) % p ≡ (d ^ (k + 1) * falling_product q a (k + 1)) % p
-weyl_factor p q d a k f m ef em =
+falling_factor p q d a k f m ef em =
     let more : k + 1 ≡ suc k = omega arith in
     rw (ef, em, more)
     (same_times p _ _ _ _ (same_rest p (d ^ k * falling_product q a k)) (same_rest p (d * (q_number q (a - k) % p)) ∙ same_mul p d _ _ (same_rest p (q_number q (a - k))))

@@ -1,8 +1,17 @@
 -- Gaussian binomials: where they vanish, and the step from b to b + 1.
 use Rattle.std.proofs.Common.{◌≡◌, ℕ, zero, suc, ◌+◌, ◌-◌, ◌*◌, ◌^◌, ◌<◌, ◌≤◌, ◌⊎◌, inl, inr, refl, sym, ap, ◌∙◌, arith, pow-add}
 use Rattle.std.proofs.Math.Nat.{pow-zero, pow-succ'}
-use Rattle.closed_forms.specs.Binomials.{q_number, gaussian, falling_product}
-use Rattle.closed_forms.specs.Forms.{weyl_number}
+use Rattle.closed_forms.specs.Binomials.{q_number, gaussian}
+
+-- The product [n]_q [n-1]_q .. of k factors. At q = 1 it is k! C(n,k).
+abbrev pub falling_product : ℕ → ℕ → ℕ → ℕ
+falling_product q n zero = 1
+falling_product q zero (suc k) = 0
+falling_product q (suc n) (suc k) = q_number q (suc n) * falling_product q n k
+
+-- The number at x^(b-k) y^(a-k) where y x = q x y + δ, with [a,k]_q [k]_q! as one falling product.
+abbrev pub falling_number : ℕ → ℕ → ℕ → ℕ → ℕ → ℕ
+falling_number q delta a b k = delta ^ k * (q ^ ((a - k) * (b - k)) * (gaussian q b k * falling_product q a k))
 
 -- above n there is no binomial
 pub gaussian-above : (q n k : ℕ) → n < k → gaussian q n k ≡ 0
@@ -64,8 +73,8 @@ module _ (q : ℕ) where
 
   module _ (delta : ℕ) where
     -- the first term
-    pub weyl_number-first : (a b : ℕ) → weyl_number q delta a (suc b) 0 ≡ q ^ a * weyl_number q delta a b 0
-    weyl_number-first a b =
+    pub falling_number-first : (a b : ℕ) → falling_number q delta a (suc b) 0 ≡ q ^ a * falling_number q delta a b 0
+    falling_number-first a b =
         let za : a - 0 ≡ a = omega arith in
         let zb : b - 0 ≡ b = omega arith in
         let zsb : suc b - 0 ≡ suc b = omega arith in
@@ -74,31 +83,31 @@ module _ (q : ℕ) where
 
     -- a later term, from two of b
     later : (a b k : ℕ)
-        → weyl_number q delta (suc a) (suc b) (suc k) ≡ q ^ suc a * weyl_number q delta (suc a) b (suc k) + (delta * q_number q (suc a)) * weyl_number q delta a b k
+        → falling_number q delta (suc a) (suc b) (suc k) ≡ q ^ suc a * falling_number q delta (suc a) b (suc k) + (delta * q_number q (suc a)) * falling_number q delta a b k
     later a b k =
         let ea : suc a - suc k ≡ a - k = omega arith in
         let eb : suc b - suc k ≡ b - k = omega arith in
         rw (ea, eb, pow-succ' delta k)
         (two_terms delta (delta ^ k) (q ^ suc a) (q ^ ((a - k) * (b - suc k))) (q ^ ((a - k) * (b - k))) (q ^ suc k) (gaussian q b k) (gaussian q b (suc k)) (q_number q (suc a)) (falling_product q a k) (powers_meet a b k))
 
-    pub weyl_number-next : (a b k : ℕ)
-        → weyl_number q delta a (suc b) (suc k) ≡ q ^ a * weyl_number q delta a b (suc k) + (delta * q_number q a) * weyl_number q delta (a - 1) b k
-    weyl_number-next zero b k = omega arith
-    weyl_number-next (suc a) b k = let e : suc a - 1 ≡ a = omega arith in rw e (later a b k)
+    pub falling_number-next : (a b k : ℕ)
+        → falling_number q delta a (suc b) (suc k) ≡ q ^ a * falling_number q delta a b (suc k) + (delta * q_number q a) * falling_number q delta (a - 1) b k
+    falling_number-next zero b k = omega arith
+    falling_number-next (suc a) b k = let e : suc a - 1 ≡ a = omega arith in rw e (later a b k)
 
     -- at b = 0 there is one term
-    pub weyl_number-start : (a : ℕ) → weyl_number q delta a 0 0 ≡ 1
-    weyl_number-start a =
+    pub falling_number-start : (a : ℕ) → falling_number q delta a 0 0 ≡ 1
+    falling_number-start a =
         let e : (a - 0) * (0 - 0) ≡ 0 = omega arith in
         rw (e, pow-zero q, pow-zero delta) refl
 
-    pub weyl_number-none : (a k : ℕ) → weyl_number q delta a 0 (suc k) ≡ 0
-    weyl_number-none a k = omega arith
+    pub falling_number-none : (a k : ℕ) → falling_number q delta a 0 (suc k) ≡ 0
+    falling_number-none a k = omega arith
 
     -- there are no terms above a
-    pub weyl_number-above : (a b k : ℕ) → a < k → weyl_number q delta a b k ≡ 0
-    weyl_number-above a b k h = rw (falling_product-above q a k h) (omega arith)
+    pub falling_number-above : (a b k : ℕ) → a < k → falling_number q delta a b k ≡ 0
+    falling_number-above a b k h = rw (falling_product-above q a k h) (omega arith)
 
     -- and none above b
-    pub weyl_number-beyond : (a b k : ℕ) → b < k → weyl_number q delta a b k ≡ 0
-    weyl_number-beyond a b k h = rw (gaussian-above q b k h) (omega arith)
+    pub falling_number-beyond : (a b k : ℕ) → b < k → falling_number q delta a b k ≡ 0
+    falling_number-beyond a b k h = rw (gaussian-above q b k h) (omega arith)

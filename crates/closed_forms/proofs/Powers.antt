@@ -8,7 +8,7 @@ use Rattle.word_model.specs.Words.{Algebra, IsWord, RewritesDown}
 use Rattle.closed_forms.specs.Binomials.{q_number}
 use Rattle.closed_forms.specs.Forms.{weyl_number}
 use Rattle.closed_forms.proofs.Sums.{sum_below, sum_below_equal, sum_below_none, sum_below-lin}
-use Rattle.closed_forms.proofs.Pascal.{weyl_number-first, weyl_number-next, weyl_number-start, weyl_number-none}
+use Rattle.closed_forms.proofs.WeylNumbers.{weyl_number-first, weyl_number-next, weyl_number-start, weyl_number-none}
 use Rattle.closed_forms.proofs.Shifts.{shifted, shifted_alike, shifted-none, shifted-shifted}
 use Rattle.closed_forms.proofs.Passing.{power_is_word, weight, IsWeylRule, pass_weyl, IsLeftRule, pass_left, IsRightRule, pass_right}
 

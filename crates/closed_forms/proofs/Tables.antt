@@ -2,7 +2,7 @@
 use Rattle.std.proofs.Common.{◌≡◌, ℕ, zero, suc, ◌+◌, ◌-◌, ◌%◌, ◌<◌, ◌≤◌, ◌⊎◌, inl, inr, List, [], ◌∷◌, ◌++◌, length, get_or, refl, sym, ap, ◌∙◌, arith, length-append}
 use Rattle.std.proofs.lemmas.List.{get_or_append_left, get_or-append_right, get_or_past}
 use Rattle.monomials.proofs.Modulo.{Same}
-use Rattle.closed_forms.specs.Binomials.{table}
+use Rattle.closed_forms.specs.Inside.Tables.{table}
 
 pub length-table : (p : ℕ) (c : ℕ → ℕ) (n : ℕ) → length (table p c n) ≡ n
 length-table p c zero = refl

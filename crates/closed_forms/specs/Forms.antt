@@ -6,7 +6,7 @@ use Rattle.word_model.specs.Words.{Algebra, monomial_of}
 use Rattle.closed_forms.specs.declared.Term2.{Term2}
 use Rattle.closed_forms.specs.declared.PairKind.{PairKind}
 use Rattle.closed_forms.specs.declared.PairKind.TheVariants.{Commuting, Quasi, Weyl, QWeyl, LeftLinear, RightLinear}
-use Rattle.closed_forms.specs.Binomials.{gaussian, falling_product}
+use Rattle.closed_forms.specs.Binomials.{gaussian, q_factorial}
 
 -- a monomial x^s y^t, as its two exponents
 abbrev pub Powers : Type 0
@@ -41,10 +41,9 @@ abbrev pub sum_of_terms : ℕ → (ℕ → ℕ) → (ℕ → Powers) → ℕ →
 sum_of_terms p c at zero = []
 sum_of_terms p c at (suc n) = sum_of_terms p c at n ++ cons_nonzero (c n % p) (at n) []
 
--- The number at x^(b-k) y^(a-k) where y x = q x y + δ: the whole number δ^k q^((a-k)(b-k)) [b,k]_q [a]_q .. [a-k+1]_q,
--- whose last factors are [a,k]_q [k]_q!.
+-- The number at x^(b-k) y^(a-k) where y x = q x y + δ: δ^k q^((a-k)(b-k)) [a,k]_q [b,k]_q [k]_q!, a whole number.
 abbrev pub weyl_number : ℕ → ℕ → ℕ → ℕ → ℕ → ℕ
-weyl_number q delta a b k = delta ^ k * (q ^ ((a - k) * (b - k)) * (gaussian q b k * falling_product q a k))
+weyl_number q delta a b k = delta ^ k * (q ^ ((a - k) * (b - k)) * (gaussian q a k * (gaussian q b k * q_factorial q k)))
 
 -- y^a x^b where y x = q x y + δ
 abbrev pub weyl_form : ℕ → ℕ → ℕ → ℕ → ℕ → Terms

@@ -1,4 +1,4 @@
 pub mod Kinds
 pub mod Binomials
 pub mod Forms
-pub mod Paths
+pub mod Inside

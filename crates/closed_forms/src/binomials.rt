@@ -2,28 +2,11 @@
 //! are products of those of its digits (after Lucas 1878), in which no such divisor stands.
 
 ghost use Rattle.std.specs.Prelude.{◌≡◌, ◌≢◌, ℕ, suc, ◌+◌, ◌*◌, ◌/◌, ◌%◌, ◌^◌, ◌<◌, ◌≤◌, IfOk, length, min, slice_index};
-ghost use Rattle.closed_forms.specs.Binomials.{q_number, gaussian, table, IsFree, IsBase};
+ghost use Rattle.closed_forms.specs.Binomials.{q_number, gaussian};
+ghost use Rattle.closed_forms.specs.Inside.Tables.{table, IsFree, IsBase};
 
 use prime_field::Field;
 use std::alloc::{AllocError, Global};
-
-/// The power of an element, in a number of products that is logarithmic in the exponent.
-pub fn power(field: Field, base: u32, exponent: u32) -> u32
-    requires { base < field }
-    ensures value { result ≡ base ^ exponent % field }
-    ensures in_range { result < field }
-{
-    let _p = field.p();
-    let (mut square, mut rest, mut result) = (base, exponent, 1);
-    while rest > 0 {
-        if rest % 2 == 1 {
-            result = field.mul(result, square);
-        }
-        square = field.mul(square, square);
-        rest /= 2;
-    }
-    result
-}
 
 /// The numbers [0]_q, .., [n]_q.
 pub fn q_numbers(alloc: Global, field: Field, q: u32, n: usize) -> Result<Vec<u32>, AllocError>

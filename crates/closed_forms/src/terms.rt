@@ -2,10 +2,10 @@
 
 ghost use Rattle.std.specs.Prelude.{◌≡◌, ℕ, suc, ◌+◌, ◌*◌, ◌<◌, ◌≤◌, ◌++◌, [], IfOk, OnOk, length, min};
 ghost use Rattle.monomials.specs.Polynomials.{cons_nonzero};
-ghost use Rattle.closed_forms.specs.Binomials.{table};
+ghost use Rattle.closed_forms.specs.Inside.Tables.{table};
 ghost use Rattle.closed_forms.specs.Forms.{pairs_of, sum_of_terms, weyl_number, weyl_form, binomial_number, closed_form};
 ghost use Rattle.closed_forms.specs.Kinds.{IsProper};
-ghost use Rattle.closed_forms.specs.Paths.{place, last_place};
+ghost use Rattle.closed_forms.specs.Inside.Paths.{place, last_place};
 ghost use Rattle.closed_forms.specs.declared.terms.Path.TheVariants.{X, Y};
 
 use crate::{PairKind, Term2, binomials};
@@ -35,7 +35,7 @@ pub fn closed_form(
     match *kind {
         PairKind::Commuting => single(alloc, 1, b, a),
         PairKind::Quasi { q } => {
-            let coef = binomials::power(field, q, u32::from(a) * u32::from(b));
+            let coef = field.pow(q, u32::from(a) * u32::from(b));
             single(alloc, coef, b, a)
         }
         PairKind::Weyl { delta } => weyl(alloc, field, 1, delta, a, b),
@@ -130,7 +130,7 @@ fn weyl_numbers(
     // delta^k [a]_q .. [a-k+1]_q
     let mut factor = 1;
     for k in 0..top + 1 {
-        let power = binomials::power(field, q, u32::from(a - k) * u32::from(b - k));
+        let power = field.pow(q, u32::from(a - k) * u32::from(b - k));
         let number = field.mul(factor, field.mul(power, row[usize::from(k)]));
         numbers.push(number)?;
         factor = field.mul(factor, field.mul(delta, q_numbers[usize::from(a - k)]));

@@ -1,7 +1,8 @@
 use Rattle.std.proofs.Common.{◌≡◌, ◌∙◌, ◌*◌, ◌/◌, ℕ, suc, sym, ap, subst, arith}
 use Rattle.std.proofs.Math.Nat.{div-one, div-le_self}
 use Rattle.prime_field.specs.Modular.{IsPrime}
-use Rattle.closed_forms.specs.Binomials.{gaussian, table, IsBase}
+use Rattle.closed_forms.specs.Binomials.{gaussian}
+use Rattle.closed_forms.specs.Inside.Tables.{table, IsBase}
 use Rattle.closed_forms.proofs.Digits.{IsPower, power_more, power_less, power_positive, power_quotient, plain_base, row_of_none, quotient_within}
 use Rattle.closed_forms.proofs.binomials.binomial_row.Goals as goal
 

@@ -1,5 +1,6 @@
 use Rattle.std.proofs.Common.{◌≡◌, ◌+◌, ◌-◌, ◌/◌, ◌≤◌, suc}
-use Rattle.closed_forms.specs.Binomials.{gaussian, table}
+use Rattle.closed_forms.specs.Binomials.{gaussian}
+use Rattle.closed_forms.specs.Inside.Tables.{table}
 use Rattle.closed_forms.proofs.Digits.{IsPower}
 use Rattle.closed_forms.proofs.binomials.binomial_row.Given as goal
 

@@ -1,6 +1,7 @@
 use Rattle.std.proofs.Common.{◌≡◌, ◌∙◌, ◌∷◌, [], ◌++◌, ◌+◌, ◌-◌, ◌*◌, ◌%◌, ℕ, suc, length, sym, ap, arith, mod-lt, mod-eq_of_lt}
 use Rattle.prime_field.specs.Modular.{IsPrime}
-use Rattle.closed_forms.specs.Binomials.{q_number, gaussian, table}
+use Rattle.closed_forms.specs.Binomials.{q_number, gaussian}
+use Rattle.closed_forms.specs.Inside.Tables.{table}
 use Rattle.closed_forms.proofs.Tables.{length-table, from_table, table_more}
 use Rattle.closed_forms.proofs.Lucas.{next_in_row}
 use Rattle.closed_forms.proofs.binomials.digit_row.Goals as goal

@@ -1,5 +1,6 @@
 use Rattle.std.proofs.Common.{◌≡◌, ◌%◌, ◌<◌, suc}
-use Rattle.closed_forms.specs.Binomials.{gaussian, table}
+use Rattle.closed_forms.specs.Binomials.{gaussian}
+use Rattle.closed_forms.specs.Inside.Tables.{table}
 use Rattle.closed_forms.proofs.binomials.digit_row.Given as goal
 
 abbrev pub invariant-loop-k : goal.invariant-loop-k

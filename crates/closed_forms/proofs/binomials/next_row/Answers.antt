@@ -1,6 +1,7 @@
 use Rattle.std.proofs.Common.{◌≡◌, ◌∙◌, ◌/◌, ◌%◌, ℕ, suc, length, get_or, ap, arith, mod-lt}
 use Rattle.prime_field.specs.Modular.{IsPrime}
-use Rattle.closed_forms.specs.Binomials.{gaussian, table}
+use Rattle.closed_forms.specs.Binomials.{gaussian}
+use Rattle.closed_forms.specs.Inside.Tables.{table}
 use Rattle.closed_forms.proofs.Tables.{length-table, at_table, table_more}
 use Rattle.word_model.proofs.Acceptance.{IsField-prime}
 use Rattle.closed_forms.proofs.Digits.{quotient_within, digit_free, number_of_digit, entry_of_digits}

@@ -1,6 +1,7 @@
 use Rattle.std.proofs.Common.{◌≡◌, ◌∙◌, suc, ap, arith, sym, mod-eq_of_lt}
 use Rattle.prime_field.specs.Modular.{IsPrime}
-use Rattle.closed_forms.specs.Binomials.{q_number, table}
+use Rattle.closed_forms.specs.Binomials.{q_number}
+use Rattle.closed_forms.specs.Inside.Tables.{table}
 use Rattle.closed_forms.proofs.Tables.{table_more}
 use Rattle.closed_forms.proofs.Residues.{next_q_number}
 use Rattle.closed_forms.proofs.binomials.q_numbers.Goals as goal

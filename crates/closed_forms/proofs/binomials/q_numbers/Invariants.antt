@@ -1,5 +1,6 @@
 use Rattle.std.proofs.Common.{◌≡◌, ◌%◌, ◌<◌}
-use Rattle.closed_forms.specs.Binomials.{q_number, table}
+use Rattle.closed_forms.specs.Binomials.{q_number}
+use Rattle.closed_forms.specs.Inside.Tables.{table}
 use Rattle.closed_forms.proofs.binomials.q_numbers.Given as goal
 
 abbrev pub invariant-loop : goal.invariant-loop

@@ -1,6 +1,6 @@
 use Rattle.std.proofs.Common.{◌≡◌, ◌∙◌, ◌%◌, ℕ, length, get_or}
 use Rattle.closed_forms.specs.Forms.{pairs_of}
-use Rattle.closed_forms.specs.Paths.{place}
+use Rattle.closed_forms.specs.Inside.Paths.{place}
 use Rattle.closed_forms.proofs.Sums.{sum_of_terms_more}
 use Rattle.closed_forms.proofs.Tables.{at_table}
 use Rattle.closed_forms.proofs.terms.along.Goals as goal

@@ -1,7 +1,7 @@
 use Rattle.std.proofs.Common.{◌≡◌, ℕ, length}
-use Rattle.closed_forms.specs.Binomials.{table}
+use Rattle.closed_forms.specs.Inside.Tables.{table}
 use Rattle.closed_forms.specs.Forms.{pairs_of, sum_of_terms}
-use Rattle.closed_forms.specs.Paths.{place}
+use Rattle.closed_forms.specs.Inside.Paths.{place}
 use Rattle.closed_forms.proofs.terms.along.Given as goal
 
 abbrev pub invariant-loop-k : goal.invariant-loop-k

@@ -1,7 +1,8 @@
 use Rattle.std.proofs.Common.{◌≡◌, ◌∙◌, ◌%◌, ◌^◌, ◌<◌, ℕ, suc, length, get_or, sym, ap, arith, mod-lt, mod-eq_of_lt}
 use Rattle.std.proofs.Math.Nat.{pow-zero}
 use Rattle.prime_field.specs.Modular.{IsPrime}
-use Rattle.closed_forms.specs.Binomials.{gaussian, table}
+use Rattle.closed_forms.specs.Binomials.{gaussian}
+use Rattle.closed_forms.specs.Inside.Tables.{table}
 use Rattle.closed_forms.specs.Forms.{binomial_number}
 use Rattle.closed_forms.proofs.Tables.{length-table, at_table, table_more}
 use Rattle.closed_forms.proofs.Numbers.{binomial_entry, next_power}

@@ -1,5 +1,5 @@
 use Rattle.std.proofs.Common.{◌≡◌, ◌%◌, ◌^◌, ◌<◌}
-use Rattle.closed_forms.specs.Binomials.{table}
+use Rattle.closed_forms.specs.Inside.Tables.{table}
 use Rattle.closed_forms.specs.Forms.{binomial_number}
 use Rattle.closed_forms.proofs.terms.binomial_numbers.Given as goal
 

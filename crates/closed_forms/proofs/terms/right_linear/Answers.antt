@@ -1,9 +1,9 @@
 use Rattle.std.proofs.Common.{◌≡◌, ◌∙◌, ◌*◌, ◌%◌, ℕ, suc, length, ap, arith}
 use Rattle.std.proofs.lemmas.Result.{IfOk-weaker}
 use Rattle.monomials.proofs.Modulo.{Same, same_refl}
-use Rattle.closed_forms.specs.Binomials.{table}
+use Rattle.closed_forms.specs.Inside.Tables.{table}
 use Rattle.closed_forms.specs.Forms.{sum_of_terms, binomial_number}
-use Rattle.closed_forms.specs.Paths.{place}
+use Rattle.closed_forms.specs.Inside.Paths.{place}
 use Rattle.closed_forms.specs.declared.terms.Path.TheVariants.{X}
 use Rattle.closed_forms.proofs.Sums.{sum_of_terms_alike}
 use Rattle.closed_forms.proofs.Tables.{by_length}

@@ -1,8 +1,8 @@
 use Rattle.std.proofs.Common.{◌≡◌, ◌∙◌, ℕ, suc, length, min, ap, arith}
 use Rattle.std.proofs.lemmas.Result.{IfOk-weaker}
-use Rattle.closed_forms.specs.Binomials.{table}
+use Rattle.closed_forms.specs.Inside.Tables.{table}
 use Rattle.closed_forms.specs.Forms.{sum_of_terms, weyl_number}
-use Rattle.closed_forms.specs.Paths.{place}
+use Rattle.closed_forms.specs.Inside.Paths.{place}
 use Rattle.closed_forms.specs.declared.terms.Path.TheVariants.{Both}
 use Rattle.closed_forms.proofs.Tables.{by_length}
 use Rattle.closed_forms.proofs.terms.weyl.Goals as goal

@@ -1,10 +1,12 @@
 use Rattle.std.proofs.Common.{◌≡◌, ◌∙◌, ◌-◌, ◌*◌, ◌%◌, ◌^◌, min, ℕ, suc, length, sym, ap, arith, mod-lt, mod-eq_of_lt}
 use Rattle.std.proofs.Math.Nat.{pow-zero}
 use Rattle.prime_field.specs.Modular.{IsPrime}
-use Rattle.closed_forms.specs.Binomials.{q_number, gaussian, table}
+use Rattle.closed_forms.specs.Binomials.{q_number, gaussian}
+use Rattle.closed_forms.specs.Inside.Tables.{table}
 use Rattle.closed_forms.specs.Forms.{weyl_number}
 use Rattle.closed_forms.proofs.Tables.{length-table, from_table, table_more}
-use Rattle.closed_forms.proofs.Numbers.{weyl_entry, weyl_factor}
+use Rattle.closed_forms.proofs.Numbers.{falling_factor}
+use Rattle.closed_forms.proofs.WeylNumbers.{weyl_entry}
 use Rattle.closed_forms.proofs.terms.weyl_numbers.Goals as goal
 
 pub loop-k-init : goal.loop-k-init
@@ -50,15 +52,15 @@ loop-k-preserved c =
     from_table p (q_number q) (suc c.from-3.result) c.from-in-loop-k-4.result c.index-in-loop-k.result.now c.in_ok-q_numbers.q_numbers.items c.in_ok-q_numbers.ensures
     (omega (arith, c.from-in-loop-k-4.ensures, c.from-3.ensures)) c.index-in-loop-k.ensures
     ∙ ap (λ r. q_number q r % p) c.from-in-loop-k-4.ensures in
-    let power : c.power-power.result ≡ q ^ ((a - k) * (b - k)) % p =
-    c.power-power.ensures.value ∙ (λ i. q ^ (c.from-in-loop-k.ensures i * c.from-in-loop-k-2.ensures i) % p) in
+    let power : c.pow-power.result ≡ q ^ ((a - k) * (b - k)) % p =
+    c.pow-power.ensures.value ∙ (λ i. q ^ (c.from-in-loop-k.ensures i * c.from-in-loop-k-2.ensures i) % p) in
     record {
       done = table_more p (weyl_number q c.args.delta a b) k c.mul-number.result c.loop-k.numbers.items c.push.new.self.items c.loop-k.invariant.done
           (c.mul-number.ensures.value ∙ ap (λ r. (c.loop-k.factor * r) % p) c.mul.ensures.value
-          ∙ weyl_entry p q c.args.delta a b k c.loop-k.factor c.power-power.result c.index.result.now c.loop-k.invariant.next power binomial)
+          ∙ weyl_entry p q c.args.delta a b k c.loop-k.factor c.pow-power.result c.index.result.now c.loop-k.invariant.next power binomial)
           c.in_ok-push.ensures.items;
       next = c.mul-factor.ensures.value ∙ ap (λ r. (c.loop-k.factor * r) % p) c.mul-in-loop-k.ensures.value
-          ∙ weyl_factor p q c.args.delta a k c.loop-k.factor c.index-in-loop-k.result.now c.loop-k.invariant.next last;
+          ∙ falling_factor p q c.args.delta a k c.loop-k.factor c.index-in-loop-k.result.now c.loop-k.invariant.next last;
       in_range = c.mul-factor.ensures.in_range;
     }
 

@@ -1,5 +1,6 @@
 use Rattle.std.proofs.Common.{◌≡◌, ◌*◌, ◌%◌, ◌^◌, ◌<◌}
-use Rattle.closed_forms.specs.Binomials.{falling_product, table}
+use Rattle.closed_forms.specs.Inside.Tables.{table}
+use Rattle.closed_forms.proofs.Pascal.{falling_product}
 use Rattle.closed_forms.specs.Forms.{weyl_number}
 use Rattle.closed_forms.proofs.terms.weyl_numbers.Given as goal
 

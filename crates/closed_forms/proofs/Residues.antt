@@ -21,3 +21,25 @@ next_q_number p q x n e =
     let more : n + 1 ≡ suc n = omega arith in
     rw (more, e)
     (same_add p 1 1 _ _ refl (same_rest p (q * (q_number q n % p)) ∙ same_mul p q _ _ (same_rest p (q_number q n))))
+
+-- half the exponent, and the square
+pub half_power : (p s k : ℕ) → Same p (((s * s) % p) ^ (k / 2) * s ^ (k % 2)) (s ^ k)
+half_power p s k =
+    let parts : k / 2 + k / 2 + k % 2 ≡ k = omega (arith, div-add-mod k 2) in
+    same_mul_right p (s ^ (k % 2)) _ _ (same_pow p ((s * s) % p) (s * s) (k / 2) (same_rest p (s * s)))
+    ∙ same_refl p _ _ (ap (λ x. x * s ^ (k % 2)) (mul-pow s s (k / 2) ∙ sym (pow-add s (k / 2) (k / 2))) ∙ sym (pow-add s (k / 2 + k / 2) (k % 2)) ∙ ap (λ x. s ^ x) parts)
+
+-- a step of the power at an even exponent
+pub even_step : (p r s k x : ℕ) → k % 2 ≡ 0 → Same p (r * s ^ k) x → Same p (r * ((s * s) % p) ^ (k / 2)) x
+even_step p r s k x even h =
+    let one : ((s * s) % p) ^ (k / 2) ≡ ((s * s) % p) ^ (k / 2) * s ^ (k % 2) = rw (even, pow-zero s) (omega arith) in
+    same_mul p r _ _ (same_refl p _ _ one ∙ half_power p s k) ∙ h
+
+-- a step at an odd one
+pub odd_step : (p r s k x : ℕ) → k % 2 ≡ 1 → Same p (r * s ^ k) x → Same p (((r * s) % p) * ((s * s) % p) ^ (k / 2)) x
+odd_step p r s k x odd h =
+    let first : s ^ (k % 2) ≡ s = rw odd (pow-succ' s 0 ∙ rw (pow-zero s) (omega arith)) in
+    let moved : (r * s) * ((s * s) % p) ^ (k / 2) ≡ r * (((s * s) % p) ^ (k / 2) * s ^ (k % 2)) = rw first (omega arith) in
+    same_mul_right p (((s * s) % p) ^ (k / 2)) _ _ (same_rest p (r * s))
+    ∙ same_refl p _ _ moved
+    ∙ same_mul p r _ _ (half_power p s k) ∙ h

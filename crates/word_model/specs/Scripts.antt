@@ -1,5 +1,5 @@
 -- The scripts that the program reads so far: three lines that make an algebra in x and d with one relation, and print
--- a product of letters, or the reduced left Gröbner basis of some products.
+-- a product of letters, or the finished list of the left run over some products.
 use Rattle.std.specs.Prelude.{◌≡◌, ℕ, zero, suc, ◌+◌, ◌-◌, ◌*◌, ◌%◌, ◌≤◌, ◌==◌, ◌&&◌, nat_le, List, [], ◌∷◌, ◌++◌, map, length, take, drop, Bool, true, Option, Some, None, codes, if◌then◌else◌, fold, option_and_then}
 use Rattle.std.specs.Option.{option_map}
 use Rattle.std.specs.List.{join_with_byte, list_all, prefix_len}
@@ -11,7 +11,7 @@ use Rattle.word_model.specs.Words.{Algebra, Word}
 pub data Request : Type 0 where
   -- a product
   Product : List ℕ → Request
-  -- the reduced left Gröbner basis of these products
+  -- the finished list of the left run over these products
   Basis : List (List ℕ) → Request
 
 -- what is left open in such a script: three numbers, as their bytes, and what it asks for

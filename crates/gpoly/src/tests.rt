@@ -3,7 +3,7 @@ ghost use Rattle.monomials.specs.Monomials.{degree};
 ghost use Rattle.monomials.specs.Polynomials.{Each, HasVars, HasNumbers};
 ghost use Rattle.gpoly.specs.Terms.{pairs_of};
 
-use super::{GPoly, Term, copies, zeros};
+use super::{Buckets, GPoly, Term, copies, zeros};
 use monomials::{Block, Expo, Order};
 use prime_field::Field;
 use std::alloc::{AllocError, Global};
@@ -196,5 +196,25 @@ fn sorts_by_another_order(rt: HostRuntime) -> Result<(), Fail> {
     let sorted = f.reorder(alloc, &lp)?;
     assert_eq!(rt; sorted.terms(), want.as_slice());
     assert!(rt; sorted.reorder(alloc, &dp)?.equals(&f));
+    Ok(())
+}
+
+#[test]
+fn gathers_in_buckets(rt: HostRuntime) -> Result<(), Fail> {
+    let alloc = rt.alloc();
+    let field = Field::of(7)?;
+    let order = Order::new(alloc, &[Block::DegRev { len: 2 }], 2)?;
+    let first = terms_of(alloc, field, &[(1, 1, 0), (1, 0, 0)])?;
+    let second = terms_of(alloc, field, &[(6, 1, 0)])?;
+    let mut sum = Buckets::new(alloc);
+    sum.add(alloc, field, &order, GPoly::from_terms(alloc, field, &order, &first)?)?;
+    sum.add(alloc, field, &order, GPoly::from_terms(alloc, field, &order, &second)?)?;
+    let one = Term {
+        coef: 1,
+        mono: Expo::of(&[0, 0]),
+    };
+    assert_eq!(rt; sum.leading(field, &order), Some(one));
+    let poly = sum.into_poly(alloc, field, &order)?;
+    assert_eq!(rt; poly.terms(), [one].as_slice());
     Ok(())
 }

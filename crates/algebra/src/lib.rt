@@ -18,12 +18,14 @@ use std::marker::Model;
 mod comparing;
 mod conditions;
 pub mod laws;
+mod numbering;
 mod presentation;
 mod product;
 mod reordering;
 mod rewriting;
 mod word;
 
+pub use numbering::pair_index;
 pub use product::{DEGREE_LIMIT, in_reach};
 
 /// The relations x_j x_i = c_ij x_i x_j + d_ij, an item of each list for each pair i < j of the

@@ -8,6 +8,7 @@ ghost use Rattle.word_model.specs.Conditions.{IsAlgebraData};
 ghost use Rattle.algebra.specs.Reordered.{reordered};
 
 use crate::Relations;
+use crate::numbering::pair_index;
 use gpoly::GPoly;
 use monomials::Order;
 use prime_field::Field;
@@ -24,10 +25,7 @@ impl Relations {
     {
         let pairs = n * (n - 1) / 2;
         let c = vec![in alloc; 1; pairs]?;
-        let mut d = Vec::new(alloc);
-        for _ in 0..pairs {
-            d.push(GPoly::zero(alloc))?;
-        }
+        let d = gpoly::zeros(alloc, pairs)?;
         Ok(Relations { c, d })
     }
 }
@@ -151,9 +149,7 @@ impl Presentation {
         ensures number { result < length self.now.c }
         ensures polynomial { result < length self.now.d }
     {
-        let n = self.order.vars();
-        let (i, j) = (usize::from(i), usize::from(j));
-        (i - 1) * (2 * n - i) / 2 + (j - i - 1)
+        pair_index(self.order.vars(), i, j)
     }
 }
 

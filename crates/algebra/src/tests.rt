@@ -1,7 +1,7 @@
 //! Worked products and refused relations. Tables are texts: a polynomial in x, y and z is its terms, each a number
 //! and the three digits of its exponents.
 
-ghost use Rattle.std.specs.Prelude.{◌≡◌, ◌≤◌, length, IfOk};
+ghost use Rattle.std.specs.Prelude.{◌≡◌, ◌+◌, ◌<◌, ◌≤◌, length, IfOk};
 ghost use Rattle.monomials.specs.Monomials.{degree};
 ghost use Rattle.monomials.specs.Polynomials.{IsPolynomial};
 
@@ -93,11 +93,13 @@ fn algebra(
 }
 
 // The numbers and polynomials of the pairs over the field with 32003 elements, two factors, and their product.
-// y x = x y + 1; then sl2 in e, f, h with f e = e f - h, h e = e h + 2 e, h f = f h - 2 f; then y x = 3 x y.
+// y x = x y + 1; then sl2 in e, f, h with f e = e f - h, h e = e h + 2 e, h f = f h - 2 f, where f^2 e is f (f e);
+// then y x = 3 x y.
 const PRODUCTS: &str = "\
 1 1 1|1:000|0:000|0:000|1:010|1:100|1:110 1:000
 1 1 1|1:000|0:000|0:000|1:020|1:100|1:120 2:010
 1 1 1|32002:001|2:100|32001:010|1:020|1:100|1:120 32001:011 2:010
+1 1 1|32002:001|2:100|32001:010|1:010|1:110 32002:001|1:120 32001:011 2:010
 3 1 1|0:000|0:000|0:000|1:010 1:001|1:200|9:210 1:201
 3 1 1|0:000|0:000|0:000|1:100|5:010|5:110
 3 1 1|0:000|0:000|0:000|1:100|0:000|0:000";
@@ -120,26 +122,6 @@ fn multiplies(rt: HostRuntime) -> Result<(), Fail> {
         let product = algebra.plain_product(alloc, &f, &g)?;
         assert!(rt; product.equals(&want), "{row}: {product:?}");
     }
-    Ok(())
-}
-
-// f^2 e = e f^2 - 2 f h + 2 f in sl2, with e, f and h as in the table.
-#[test]
-fn associates_in_sl2(rt: HostRuntime) -> Result<(), Fail> {
-    let alloc = rt.alloc();
-    let relations = ["32002:001", "2:100", "32001:010"];
-    let algebra = algebra(alloc, Field::of(32003)?, "dp", "1 1 1", relations)??;
-    assert_eq!(rt; algebra.n(), 3);
-    let (field, order) = (algebra.field(), algebra.order());
-    let e = poly(alloc, field, order, "1:100")?;
-    let f = poly(alloc, field, order, "1:010")?;
-    let want = poly(alloc, field, order, "1:120 32001:011 2:010")?;
-    let square = algebra.plain_product(alloc, &f, &f)?;
-    let square_first = algebra.plain_product(alloc, &square, &e)?;
-    let letter = algebra.plain_product(alloc, &f, &e)?;
-    let letter_first = algebra.plain_product(alloc, &f, &letter)?;
-    assert!(rt; square_first.equals(&want), "{square_first:?}");
-    assert!(rt; letter_first.equals(&want), "{letter_first:?}");
     Ok(())
 }
 
@@ -195,7 +177,7 @@ fn refuses_the_first_fault(rt: HostRuntime) -> Result<(), Fail> {
 }
 
 #[test]
-fn reads_and_bounds(rt: HostRuntime) -> Result<(), Fail> {
+fn reads_its_parts(rt: HostRuntime) -> Result<(), Fail> {
     let alloc = rt.alloc();
     let field = Field::of(7)?;
     let ring = Algebra::commuting(alloc, field, order(alloc, "dp")?, 3)?;
@@ -204,14 +186,49 @@ fn reads_and_bounds(rt: HostRuntime) -> Result<(), Fail> {
     assert_eq!(rt; ring.order().vars(), 3);
     assert_eq!(rt; ring.c(2, 3), 1);
     assert!(rt; ring.d(1, 3).is_zero());
-    for (exponent, fits) in [(2047, true), (2048, false)] {
-        let mono = Expo::of(&[exponent, 0, 0]);
-        let power = GPoly::from_terms(alloc, field, ring.order(), &[Term { coef: 1, mono }])?;
-        match ring.plain_product(alloc, &power, &power) {
-            Ok(square) => assert!(rt; fits && square.degree() == 2 * u32::from(exponent)),
-            Err(fault) => assert!(rt; !fits && matches!(fault, ProductFault::DegreeOver)),
-        }
-    }
+    Ok(())
+}
+
+// The algebra in 16 variables in which x_j x_i = c x_i x_j for each pair i < j.
+fn planes(alloc: Global, field: Field, c: u32) -> Result<Algebra, Fail>
+    requires { c < field }
+    ensures { IfOk result (λ a. a.order.vars ≡ 16) }
+{
+    let order = Order::new(alloc, &[Block::DegRev { len: 16 }], 16)?;
+    let c = vec![in alloc; c; 120]?;
+    let d = gpoly::zeros(alloc, 120)?;
+    let planes = Algebra::new(alloc, field, order, 16, Relations { c, d })?;
+    Ok(planes)
+}
+
+// The number times these powers of x_1 and x_16.
+fn outer(alloc: Global, algebra: &Algebra, coef: u64, x: u16, y: u16) -> Result<GPoly, Fail>
+    requires vars { algebra.now.order.vars ≡ 16 }
+    requires small { x + y ≤ 4095 }
+    ensures { IfOk result (λ f. IsPolynomial algebra.now.p algebra.now.order f) }
+{
+    let _n = algebra.n();
+    let (field, order) = (algebra.field(), algebra.order());
+    let mono = Expo::of(&[x, 0, 0, 0, 0, 0, 0, 0, 0, 0, 0, 0, 0, 0, 0, y]);
+    let coef = field.from_int(coef);
+    let term = GPoly::from_terms(alloc, field, order, &[Term { coef, mono }])?;
+    Ok(term)
+}
+
+// x_16 x_1^4094 = 2^4094 x_1^4094 x_16, and 2^3 is 1 modulo 7.
+#[test]
+fn takes_16_variables_and_degree_4095(rt: HostRuntime) -> Result<(), Fail> {
+    let alloc = rt.alloc();
+    let planes = planes(alloc, Field::of(7)?, 2)?;
+    let power = outer(alloc, &planes, 1, 4094, 0)?;
+    let last = outer(alloc, &planes, 1, 0, 1)?;
+    let want = outer(alloc, &planes, 4, 4094, 1)?;
+    let product = planes.plain_product(alloc, &last, &power)?;
+    assert!(rt; product.equals(&want), "{product:?}");
+    assert!(rt; in_reach(&last, &power) && product.degree() == DEGREE_LIMIT);
+    let square = outer(alloc, &planes, 1, 0, 2)?;
+    let over = planes.plain_product(alloc, &square, &power);
+    assert!(rt; matches!(over, Err(ProductFault::DegreeOver)));
     Ok(())
 }
 

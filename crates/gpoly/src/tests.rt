@@ -207,8 +207,18 @@ fn gathers_in_buckets(rt: HostRuntime) -> Result<(), Fail> {
     let first = terms_of(alloc, field, &[(1, 1, 0), (1, 0, 0)])?;
     let second = terms_of(alloc, field, &[(6, 1, 0)])?;
     let mut sum = Buckets::new(alloc);
-    sum.add(alloc, field, &order, GPoly::from_terms(alloc, field, &order, &first)?)?;
-    sum.add(alloc, field, &order, GPoly::from_terms(alloc, field, &order, &second)?)?;
+    sum.add(
+        alloc,
+        field,
+        &order,
+        GPoly::from_terms(alloc, field, &order, &first)?,
+    )?;
+    sum.add(
+        alloc,
+        field,
+        &order,
+        GPoly::from_terms(alloc, field, &order, &second)?,
+    )?;
     let one = Term {
         coef: 1,
         mono: Expo::of(&[0, 0]),

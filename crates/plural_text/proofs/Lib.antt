@@ -10,3 +10,4 @@ pub mod Products
 pub mod Terms
 pub mod Rests
 pub mod Steps
+pub mod RelationLines

@@ -1,4 +1,4 @@
-use Rattle.std.proofs.Common.{◌≡◌, ◌≢◌, ℕ, ◌%◌, length, ap, sym, ◌∙◌, arith}
+use Rattle.std.proofs.Common.{◌≡◌, ◌≢◌, ℕ, ◌%◌, ◌<◌, length, ap, sym, ◌∙◌, arith}
 use Rattle.std.proofs.lemmas.Result.{IfOk-weaker}
 use Rattle.monomials.specs.Monomials.{plus, degree}
 use Rattle.monomials.specs.Orders.{RowOrder}
@@ -7,6 +7,12 @@ use Rattle.word_model.proofs.Acceptance.{c_of-below, IsPolynomial-d_of}
 use Rattle.word_model.proofs.PairMonomials.{pair_monomial_is}
 use Rattle.plural_text.proofs.RightSides.{length-pair, degree-pair, pair_made, right_side-made}
 use Rattle.plural_text.proofs.rings.right_side.Goals as goal
+
+pub from_terms-requires-clause-numbers : goal.from_terms-requires-clause-numbers
+from_terms-requires-clause-numbers c =
+    let below : c_of c.args.alg.now c.args.i c.args.j < c.args.alg.now.p =
+    c_of-below c.args.alg.now c.n-n.ensures.data (omega (arith, c.n-n.ensures.prime.above_one)) c.args.i c.args.j in
+    (rw (c.c.ensures, c.field.ensures) below, tt)
 
 pub from_terms-requires-clause-vars : goal.from_terms-requires-clause-vars
 from_terms-requires-clause-vars c =

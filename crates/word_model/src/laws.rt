@@ -8,7 +8,8 @@ ghost use Rattle.monomials.specs.Polynomials.{Polynomial, HasVars, IsPolynomial,
 ghost use Rattle.word_model.specs.Words.{Algebra, Word, WordSum, IsWord, pair_index, pair_monomial, monomial_of, sorted_word, Descent, leftmost_descent, rewritten, normal_form, word_value, RewritesDown};
 ghost use Rattle.monomials.specs.Leading.{leading_monomial};
 ghost use Rattle.word_model.specs.Conditions.{Fault, pair_fault, triple_fault, triple_rest, first_from, relations_fault, NonZero, IsField, HasNonzeroNumbers, IsAlgebraData, IsGAlgebra};
-ghost use Rattle.word_model.specs.Products.{product, letters_product, times_letters};
+ghost use Rattle.word_model.specs.Products.{product, letters_product, times_letters, in_reach};
+ghost use Rattle.word_model.specs.Reduction.{is_within};
 ghost use Rattle.word_model.specs.Scripts.{two_variables};
 
 /// The number of a pair is its place in lexicographic order: the first pair has the number 0, and each
@@ -91,6 +92,13 @@ pub fn distribute()
 pub fn degree_bound()
     ensures { (A : Algebra) (f g : Polynomial) → RewritesDown A → HasVars A.order.vars f →
         HasVars A.order.vars g → poly_degree (product A f g) ≤ poly_degree f + poly_degree g }
+{}
+
+/// A step's product is within the limit of degrees exactly where a product of polynomials is: the two
+/// tests agree on each term and each polynomial other than zero.
+pub fn steps_in_reach()
+    ensures { (c : ℕ) (m : Monomial) (g : Polynomial) → g ≢ [] →
+        is_within m g ≡ in_reach ((c, m) ∷ []) g }
 {}
 
 /// Products of nonzero polynomials are not zero, and leading monomials multiply: over a field,

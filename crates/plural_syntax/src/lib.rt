@@ -5,6 +5,7 @@ mod expressions;
 pub mod laws;
 mod levels;
 mod parsing;
+mod parts;
 mod reading;
 mod statements;
 #[cfg(test)]

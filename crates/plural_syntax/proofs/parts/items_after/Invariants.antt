@@ -3,7 +3,7 @@ use Rattle.plural_syntax.specs.declared.word.Word.TheVariants as w
 use Rattle.plural_syntax.specs.Words.{is, lexemes}
 use Rattle.plural_syntax.specs.Inside.Reading as spec
 use Rattle.plural_syntax.proofs.Readers.{prepend}
-use Rattle.plural_syntax.proofs.statements.items_after.Given as goal
+use Rattle.plural_syntax.proofs.parts.items_after.Given as goal
 
 abbrev pub invariant-loop-alloc : goal.invariant-loop-alloc
 invariant-loop-alloc l = record {

@@ -1,7 +1,7 @@
 use Rattle.std.proofs.Common.{◌∙◌, sym, arith}
 use Rattle.plural_syntax.proofs.Strict.{blocked_deep, blocked_unexpected}
 use Rattle.plural_syntax.proofs.Loops.{inside_zero, inside_step}
-use Rattle.plural_syntax.proofs.statements.data.Goals as goal
+use Rattle.plural_syntax.proofs.parts.data.Goals as goal
 
 pub returns-then-left-gt0-clause-value : goal.returns-then-left-gt0-clause-value
 returns-then-left-gt0-clause-value c = rw (inside_step c.args.levels.now (omega arith)) c.inner_data.ensures.value

@@ -4,7 +4,7 @@ use Rattle.plural_syntax.specs.declared.word.Word.TheVariants as w
 use Rattle.plural_syntax.specs.Words.{is, lexemes}
 use Rattle.plural_syntax.proofs.PartRules.{item_after_starts, rule_item_after}
 use Rattle.plural_syntax.proofs.Loops.{repeats_end, repeats_fail, repeats_go}
-use Rattle.plural_syntax.proofs.statements.items_after.Goals as goal
+use Rattle.plural_syntax.proofs.parts.items_after.Goals as goal
 
 pub returns-clause-value : goal.returns-clause-value
 returns-clause-value c = repeats_end (is w.Comma) item_after_starts (rule_item_after 0) c.loop-alloc.found _ (lexemes c.args.bytes.now c.loop-alloc.rest.now) c.loop-alloc.invariant.value (sym c.next_is.ensures ∙ c.loop-alloc-test.false)

@@ -7,6 +7,6 @@ mod Sums
 mod Passing
 mod Parted
 pub mod TwoPowers
-pub mod PlainValue
+pub mod LetterValue
 pub mod ClosedTerms
 pub mod Known

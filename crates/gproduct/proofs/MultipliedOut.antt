@@ -2,7 +2,7 @@
 use Rattle.std.proofs.Common.{◌≡◌, ℕ, zero, suc, ◌+◌, ◌-◌, ◌*◌, ◌%◌, ◌^◌, ◌<◌, ◌≤◌, ◌⊎◌, inl, inr, List, [], ◌∷◌, ◌++◌, map, length, replicate, get_or, refl, sym, ap, ◌∙◌, subst, subst₂, arith, pow-suc, mod-lt, mul-le-mul_left, mul-le-mul_right, length-append, append_assoc}
 use Rattle.std.proofs.Math.Nat.{pow-le-pow_right, one-le-pow}
 use Rattle.std.proofs.lemmas.List.{map-append, length-replicate}
-use Rattle.monomials.specs.Monomials.{Monomial, minus}
+use Rattle.monomials.specs.Monomials.{Monomial, minus, power}
 use Rattle.monomials.specs.Orders.{order_cmp}
 use Rattle.monomials.specs.Polynomials.{Polynomial, Each, from_terms}
 use Rattle.monomials.proofs.Modulo.{Same, same_refl, same_add, same_mul, same_mul_right, same_rest}
@@ -19,7 +19,7 @@ use Rattle.word_model.proofs.Termination.{IsLess, measure, normal_form-sorted}
 use Rattle.word_model.proofs.NormalForms.{word_weight, weigh-word_value, word_value_is_polynomial, normal_form_is_polynomial, same_weights}
 use Rattle.word_model.proofs.Confluence.{word_weight-inside}
 use Rattle.gproduct.specs.declared.front.Crossing.{Crossing}
-use Rattle.gproduct.specs.Factors.{power, stacked_word, HaveVars, ProductSum, words_of, IsReady, AreTerms, IsCrossing, between, IsSwap}
+use Rattle.gproduct.specs.Inside.Factors.{stacked_word, HaveVars, ProductSum, words_of, IsReady, AreTerms, IsCrossing, between, IsExchange}
 use Rattle.gproduct.proofs.SortedWords.{sorted_word-last, sorted_word-first, length-power}
 use Rattle.gproduct.proofs.Stacks.{stacked_word-append, IsWord-stacked_word}
 use Rattle.gproduct.proofs.Swaps.{powers_fall, part_less}
@@ -282,7 +282,7 @@ module _ (A : Algebra) where
 
   module _ (accepted : IsGAlgebra A) (start rest : ProductSum) (k : ℕ) (fs : List Monomial) (done : Polynomial) (h : IsMultiplying start (rest ++ (k, fs) ∷ []) done)
       (x : Crossing) (crossing : IsCrossing A.order.vars x) (tail : List Monomial) (tail_vars : HaveVars A.order.vars tail)
-      (is : stacked_word fs ≡ sorted_word x.left ++ (sorted_word x.right ++ stacked_word tail)) (added : ProductSum) (swap : IsSwap A k x tail added) where
+      (is : stacked_word fs ≡ sorted_word x.left ++ (sorted_word x.right ++ stacked_word tail)) (added : ProductSum) (swap : IsExchange A k x tail added) where
     vars : HaveVars A.order.vars fs
     vars = last_vars rest k fs h.ready
 

@@ -15,8 +15,8 @@ use Rattle.word_model.specs.Products.{product}
 use Rattle.word_model.proofs.CommonMultiples.{length-plus}
 use Rattle.word_model.proofs.Degrees.{poly_degree-le}
 use Rattle.word_model.proofs.NormalForms.{word_weight, row_weight, weigh-product, product_is_polynomial, same_weights}
-use Rattle.gproduct.specs.Factors.{AreTerms}
-use Rattle.gproduct.specs.Passing.{Passes, AddUp, IsParted, IsSplit}
+use Rattle.gproduct.specs.Inside.Factors.{AreTerms}
+use Rattle.gproduct.specs.Inside.Passing.{Passes, AddUp, IsParted, IsSplit}
 use Rattle.gproduct.proofs.Passing.{passed_weight}
 
 module _ (A : Algebra) (downward : RewritesDown A) (k : ℕ) (m : Monomial) where

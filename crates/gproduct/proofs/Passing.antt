@@ -13,7 +13,7 @@ use Rattle.word_model.proofs.Induction.{pair_bounds, word_induction}
 use Rattle.word_model.proofs.Termination.{normal_form-sorted}
 use Rattle.word_model.proofs.NormalForms.{word_weight, word_weight-descent}
 use Rattle.gproduct.specs.declared.pairs.Pair.{Pair}
-use Rattle.gproduct.specs.Passing.{IsCommuting, Passes, IsPair, HasNoncommuting, IsFree}
+use Rattle.gproduct.specs.Inside.Passing.{IsCommuting, Passes, IsPair, HasNoncommuting, IsFree}
 
 module _ (A : Algebra) where
   -- x_j commutes with x_i, or stands in order before it

@@ -1,10 +1,9 @@
 -- Words of monomials: products, and powers of the last and the first variable.
 use Rattle.std.proofs.Common.{◌≡◌, ℕ, zero, suc, ◌+◌, ◌-◌, ◌<◌, ◌≤◌, ◌⊎◌, inl, inr, true, [], ◌∷◌, ◌++◌, length, get_or, take, set, replicate, refl, sym, ap, ◌∙◌, arith, append_assoc, append-nil, length-append}
 use Rattle.std.proofs.lemmas.List.{replicate-append-replicate, length-replicate, take-replicate}
-use Rattle.monomials.specs.Monomials.{Monomial, plus, minus, divides}
+use Rattle.monomials.specs.Monomials.{Monomial, plus, minus, divides, power}
 use Rattle.monomials.proofs.Exponents.{divides_decides, get_or-zeros}
 use Rattle.word_model.specs.Words.{word_from, sorted_word}
-use Rattle.gproduct.specs.Factors.{power}
 
 -- a monomial without exponents has no letter
 pub word_from-nothing : (i : ℕ) (m : Monomial) → ((k : ℕ) → get_or m k 0 ≡ 0) → word_from i m ≡ []

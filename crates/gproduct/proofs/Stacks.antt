@@ -7,7 +7,7 @@ use Rattle.monomials.proofs.Keys.{Each-append}
 use Rattle.word_model.specs.Words.{Word, IsWord, sorted_word}
 use Rattle.word_model.proofs.Letters.{IsWord-sorted_word, length-word_from}
 use Rattle.gproduct.specs.declared.pending.Open.{Open}
-use Rattle.gproduct.specs.Factors.{stacked_word, HaveVars, products_in, factor_count}
+use Rattle.gproduct.specs.Inside.Factors.{stacked_word, HaveVars, products_in, factor_count}
 use Rattle.gproduct.proofs.SortedWords.{word_from-nothing}
 
 -- the word of two stacks, one on the other

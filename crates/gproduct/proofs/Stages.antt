@@ -1,7 +1,7 @@
 -- Products with a term, variable by variable, and their words.
 use Rattle.std.proofs.Common.{◌≡◌, ℕ, suc, ◌+◌, ◌-◌, ◌*◌, ◌<◌, ◌≤◌, [], ◌∷◌, ◌++◌, map, length, take, drop, get_or, replicate, refl, sym, ap, ◌∙◌, subst, arith, append_assoc, append-nil, length-append}
 use Rattle.std.proofs.lemmas.List.{take_more, take_all, take-append-drop, length-replicate, length-take-le}
-use Rattle.monomials.specs.Monomials.{Monomial, degree}
+use Rattle.monomials.specs.Monomials.{Monomial, degree, power}
 use Rattle.monomials.specs.Polynomials.{Polynomial, HasNumbers, HasVars, IsPolynomial, poly_scale, poly_degree}
 use Rattle.monomials.proofs.Modulo.{Same, same_refl}
 use Rattle.monomials.proofs.Weights.{weigh, weigh_alike_on, weigh-poly_scale}
@@ -14,7 +14,7 @@ use Rattle.word_model.proofs.Letters.{Each-map, IsWord-sorted_word, length-word_
 use Rattle.word_model.proofs.NormalForms.{word_weight, row_weight, weigh-word_value, weigh-product, word_value_is_polynomial, product_is_polynomial, same_weights}
 use Rattle.word_model.proofs.Degrees.{HasDegrees-poly_degree, poly_degree-le, poly_degree-product}
 use Rattle.word_model.proofs.Associativity.{last_part}
-use Rattle.gproduct.specs.Factors.{power, ProductSum, words_of, IsReady}
+use Rattle.gproduct.specs.Inside.Factors.{ProductSum, words_of, IsReady}
 use Rattle.gproduct.proofs.SortedWords.{length-power, sorted_word-power}
 use Rattle.gproduct.proofs.MultipliedOut.{word_weight-sorted}
 

@@ -1,5 +1,5 @@
 -- Sums of many polynomials, and products with one term more on the left.
-use Rattle.std.proofs.Common.{◌≡◌, ℕ, zero, suc, false, ◌+◌, ◌<◌, ◌≤◌, List, [], ◌∷◌, ◌++◌, length, take, get_or, refl, sym, ap, ◌∙◌, subst, arith}
+use Rattle.std.proofs.Common.{◌≡◌, ℕ, zero, suc, true, ◌+◌, ◌<◌, ◌≤◌, List, [], ◌∷◌, ◌++◌, length, take, get_or, refl, sym, ap, ◌∙◌, subst, arith}
 use Rattle.std.proofs.lemmas.Bool.Decides.{nat_tests}
 use Rattle.std.proofs.lemmas.List.{map-append, take_more}
 use Rattle.monomials.specs.Monomials.{Monomial, degree}
@@ -17,7 +17,7 @@ use Rattle.gpoly.proofs.TermLists.{numbers_at, vars_at}
 use Rattle.word_model.specs.Words.{Algebra}
 use Rattle.word_model.specs.Products.{product, in_reach}
 use Rattle.word_model.proofs.NormalForms.{row_weight, weigh-product, product_is_polynomial, same_weights}
-use Rattle.gproduct.specs.Parts.{sum_of, AreSorted}
+use Rattle.gproduct.specs.Inside.Parts.{sum_of, AreSorted}
 
 module _ (p : ℕ) (pos : 0 < p) (order : RowOrder) where
   -- the weight of all together
@@ -133,8 +133,8 @@ term_at p n ts i t inside is numbers vars = (
   omega (arith, ap (λ t. degree t.mono) is, degree_at ts i t inside),
 )
 
--- small degrees that add up to more than the limit are those of nonzero polynomials out of reach
-pub out_of_reach : (f g : Polynomial) → poly_degree f ≤ 4095 → poly_degree g ≤ 4095 → 4095 < poly_degree f + poly_degree g → in_reach f g ≡ false
-out_of_reach [] g hf hg over = absurd (omega arith)
-out_of_reach (t ∷ f) [] hf hg over = absurd (omega arith)
-out_of_reach (t ∷ f) (u ∷ g) hf hg over = grind (arith, nat_tests)
+-- polynomials whose degrees add up to at most the limit are in reach
+pub within_reach : (f g : Polynomial) → poly_degree f + poly_degree g ≤ 4095 → in_reach f g ≡ true
+within_reach [] g small = refl
+within_reach (t ∷ f) [] small = refl
+within_reach (t ∷ f) (u ∷ g) small = grind (arith, nat_tests)

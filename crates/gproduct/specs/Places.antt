@@ -1,5 +1,5 @@
 -- Places: products of powers of two variables, each of which has a cell in a table.
-use Rattle.std.specs.Prelude.{ℕ, ◌+◌, ◌-◌, ◌*◌, ◌<◌, ◌≤◌, ◌++◌, replicate}
+use Rattle.std.specs.Prelude.{ℕ, ◌+◌, ◌-◌, ◌*◌, ◌/◌, ◌<◌, ◌≤◌, ◌++◌, replicate}
 use Rattle.monomials.specs.Polynomials.{Polynomial}
 use Rattle.word_model.specs.Words.{Algebra, Word, normal_form, pair_index}
 use Rattle.gproduct.specs.declared.place.Place.{Place}
@@ -25,3 +25,7 @@ place_value A place = normal_form A (place_word place)
 -- The number of a place's cell, counted from 0: places go by their pair of variables, then by a, and then by b.
 abbrev pub cell_of : ℕ → Place → ℕ
 cell_of n place = pair_index n place.i place.j * 256 + ((place.a - 1) * 16 + (place.b - 1))
+
+-- How many places an algebra in n variables has: 256 for each pair.
+abbrev pub cell_count : ℕ → ℕ
+cell_count n = n * (n - 1) / 2 * 256

@@ -1,7 +1,8 @@
 //! Where a product of sorted monomials is out of order.
 
 ghost use Rattle.std.specs.Prelude.{◌≡◌, ℕ, ◌+◌, ◌-◌, ◌<◌, ◌≤◌, length, slice_index};
-ghost use Rattle.gproduct.specs.Factors.{power, stacked_word, HaveVars, IsFront};
+ghost use Rattle.monomials.specs.Monomials.{power};
+ghost use Rattle.gproduct.specs.Inside.Factors.{stacked_word, HaveVars, IsFront};
 
 use monomials::Expo;
 
@@ -21,19 +22,6 @@ pub enum Front {
     Sorted(Expo),
     /// The product is out of order here.
     Crossed(Crossing),
-}
-
-/// The monomial `x_v^k` in `n` variables.
-pub fn power(n: usize, v: u8, k: u16) -> Expo
-    requires few { n ≤ 16 }
-    requires first { 1 ≤ v }
-    requires last { v ≤ n }
-    requires small { k ≤ 4095 }
-    ensures { result ≡ power n v k }
-{
-    let mut exps = [0; 16];
-    exps[usize::from(v) - 1] = k;
-    Expo::of(&exps[..n])
 }
 
 // The number of the last variable that divides the monomial, 0 of 1.

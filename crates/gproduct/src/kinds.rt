@@ -2,7 +2,7 @@
 
 ghost use Rattle.std.specs.Prelude.{◌≡◌, ◌<◌, ◌≤◌, IfOk, IfSome};
 ghost use Rattle.closed_forms.specs.Kinds.{HasKind};
-ghost use Rattle.gproduct.specs.Swaps.{AreKinds};
+ghost use Rattle.gproduct.specs.Inside.Swaps.{AreKinds};
 
 use algebra::Algebra;
 use closed_forms::{PairKind, kind_of};

@@ -6,10 +6,10 @@ ghost use Rattle.monomials.specs.Orders.{order_cmp};
 ghost use Rattle.monomials.specs.Polynomials.{HasNumbers, IsPolynomial, from_terms};
 ghost use Rattle.gpoly.specs.Terms.{pairs_of};
 ghost use Rattle.word_model.specs.Words.{word_value};
-ghost use Rattle.gproduct.specs.Factors.{AreTerms, IsCrossing, IsReady, IsSwap, ProductSum, factor_count, products_in, words_of};
+ghost use Rattle.gproduct.specs.Inside.Factors.{AreTerms, IsCrossing, IsReady, IsExchange, ProductSum, factor_count, products_in, words_of};
 ghost use Rattle.gproduct.specs.Seats.{Keeps};
 
-use crate::front::{Crossing, Front, join_front, power};
+use crate::front::{Crossing, Front, join_front};
 use crate::pending::Pending;
 use crate::powers::power_terms;
 use crate::seat::TableSeat;
@@ -58,7 +58,7 @@ fn push_swapped(
     requires crossing { IsCrossing seat.old.algebra.order.vars crossing.now }
     requires reach { degree crossing.now.left + degree crossing.now.right ≤ 4095 }
     ensures counted { OnOk result (factor_count pending.new.open.items ≡ length pending.new.factors.items) }
-    ensures products { OnOk result ((added : ProductSum) × (IsSwap seat.old.algebra coef crossing.now tail.now added
+    ensures products { OnOk result ((added : ProductSum) × (IsExchange seat.old.algebra coef crossing.now tail.now added
         × (products_in pending.new.open.items pending.new.factors.items
         ≡ products_in pending.old.open.items pending.old.factors.items ++ added))) }
     ensures algebra { seat.new.algebra ≡ seat.old.algebra }
@@ -73,8 +73,8 @@ fn push_swapped(
     let (a, b) = (left.get(high), right.get(low));
     let (a, b) = power_terms(alloc, seat, low, high, a, b, terms)?;
     let n = seat.algebra().n();
-    let left = left.minus(&power(n, high, a));
-    let right = right.minus(&power(n, low, b));
+    let left = left.minus(&Expo::power(n, high, a));
+    let right = right.minus(&Expo::power(n, low, b));
     let field = seat.algebra().field();
     push_each(pending, field, coef, &left, terms, &right, tail)
 }

@@ -2,7 +2,7 @@
 
 ghost use Rattle.std.specs.Prelude.{◌≡◌, ◌<◌, ◌≤◌, IsTrue, IsFalse, IfOk, length};
 ghost use Rattle.monomials.specs.Polynomials.{Each};
-ghost use Rattle.gproduct.specs.Passing.{IsCommuting, IsPair, HasNoncommuting, IsFree};
+ghost use Rattle.gproduct.specs.Inside.Passing.{IsCommuting, IsPair, HasNoncommuting, IsFree};
 
 use crate::kinds::{MOST_VARIABLES, kind_at};
 use algebra::Algebra;

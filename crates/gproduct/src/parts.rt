@@ -2,7 +2,7 @@
 
 ghost use Rattle.std.specs.Prelude.{◌≡◌, ◌∷◌, ◌++◌, [], IfOk, OnOk};
 ghost use Rattle.monomials.specs.Polynomials.{IsPolynomial};
-ghost use Rattle.gproduct.specs.Parts.{sum_of, AreSorted};
+ghost use Rattle.gproduct.specs.Inside.Parts.{sum_of, AreSorted};
 
 use gpoly::GPoly;
 use monomials::Order;

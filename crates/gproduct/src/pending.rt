@@ -1,7 +1,7 @@
 //! Products that are still to be multiplied out.
 
 ghost use Rattle.std.specs.Prelude.{◌≡◌, ◌∷◌, ◌++◌, [], IfOk, OnOk, MatchOption, length};
-ghost use Rattle.gproduct.specs.Factors.{products_in, factor_count};
+ghost use Rattle.gproduct.specs.Inside.Factors.{products_in, factor_count};
 
 use monomials::Expo;
 use std::alloc::{AllocError, Global};

@@ -8,7 +8,7 @@ ghost use Rattle.closed_forms.specs.Forms.{closed_form};
 ghost use Rattle.closed_forms.specs.Kinds.{IsProper, HasKind};
 ghost use Rattle.gproduct.specs.Places.{IsPlace, place_value};
 ghost use Rattle.gproduct.specs.Seats.{Knows, Keeps};
-ghost use Rattle.gproduct.specs.Swaps.{IsSwap, swap_word};
+ghost use Rattle.gproduct.specs.Inside.Swaps.{IsSwap, swap_word};
 
 use crate::place::{MOST_EXPONENT, Place};
 use crate::seat::{Learned, TableSeat};
@@ -111,27 +111,9 @@ fn number_of_one(field: Field, kind: &PairKind, a: u16, b: u16) -> Option<u32>
     let _p = field.p();
     match *kind {
         PairKind::Commuting => Some(1),
-        PairKind::Quasi { q } => Some(power(field, q, u32::from(a) * u32::from(b))),
+        PairKind::Quasi { q } => Some(field.pow(q, u32::from(a) * u32::from(b))),
         _ => None,
     }
-}
-
-// The power of an element, in a number of products that is logarithmic in the exponent.
-fn power(field: Field, base: u32, exponent: u32) -> u32
-    requires { base < field }
-    ensures value { result ≡ base ^ exponent % field }
-    ensures in_range { result < field }
-{
-    let _p = field.p();
-    let (mut square, mut rest, mut result) = (base, exponent, 1);
-    while rest > 0 {
-        if rest % 2 == 1 {
-            result = field.mul(result, square);
-        }
-        square = field.mul(square, square);
-        rest /= 2;
-    }
-    result
 }
 
 // Puts the value of a place into `terms`, and lets the seat learn it.

@@ -1,29 +1,26 @@
 //! Products of terms, variables and polynomials.
 
 ghost use Rattle.std.specs.Prelude.{◌≡◌, ◌≢◌, ◌+◌, ◌<◌, ◌≤◌, true, false, ◌∷◌, ◌++◌, [], length, map, IfOk, OnOk, Err};
-ghost use Rattle.monomials.specs.Monomials.{degree};
+ghost use Rattle.monomials.specs.Monomials.{degree, power};
 ghost use Rattle.monomials.specs.Polynomials.{IsPolynomial, poly_degree};
 ghost use Rattle.gpoly.specs.Terms.{pairs_of};
 ghost use Rattle.word_model.specs.Products.{product, variable_polynomial, in_reach};
+ghost use Rattle.algebra.specs.Limited.{AnswersWithin};
 ghost use Rattle.gproduct.specs.Seats.{Keeps};
 ghost use Rattle.gproduct.specs.Counting.{Counts};
-ghost use Rattle.gproduct.specs.Factors.{factor_count, power, products_in};
+ghost use Rattle.gproduct.specs.Inside.Factors.{factor_count, products_in};
 
-use crate::front::power;
 use crate::multiplying::multiply_out;
 use crate::parts::{add_part, total};
 use crate::pending::Pending;
 use crate::seat::TableSeat;
 use crate::split::{SplitProduct, split};
 use crate::steps::Steps;
-use algebra::ProductFault;
+use algebra::{DEGREE_LIMIT, ProductFault};
 use gpoly::{GPoly, Term};
 use monomials::Expo;
 use std::alloc::{AllocError, Global};
 use std::sync::ledger::Ledger;
-
-// The most that the degrees of the factors may add up to.
-const DEGREE_LIMIT: u32 = 4095;
 
 // Adds the products of `mono` with each of the terms behind it.
 fn push_before(pending: &mut Pending, mono: &Expo, terms: &[Term]) -> Result<(), AllocError>
@@ -76,7 +73,7 @@ fn crossed_times(
     ensures kept { Keeps seat.old seat.new }
 {
     let n = seat.algebra().n();
-    push_before(pending, &power(n, v, exponent), f.terms())?;
+    push_before(pending, &Expo::power(n, v, exponent), f.terms())?;
     multiply_out(alloc, seat, pending)
 }
 
@@ -107,7 +104,7 @@ fn power_times(
     if exponent == 0 {
         return Ok(f);
     }
-    let power = power(n, v, exponent);
+    let power = Expo::power(n, v, exponent);
     let SplitProduct { passed, rest } = split(alloc, seat, 1, &power, &f)?;
     if rest.is_zero() {
         return Ok(passed);
@@ -229,6 +226,7 @@ pub fn term_times<L: Ledger>(
     ensures sorted { IfOk result (λ r. IsPolynomial seat.old.algebra.p seat.old.algebra.order r) }
     ensures within { OnOk result (in_reach ((coef, mono.now) ∷ []) f.now ≡ true) }
     ensures over { result ≡ Err ProductFault.DegreeOver → in_reach ((coef, mono.now) ∷ []) f.now ≡ false }
+    ensures reach { AnswersWithin (in_reach ((coef, mono.now) ∷ []) f.now) result }
     ensures algebra { seat.new.algebra ≡ seat.old.algebra }
     ensures kept { Keeps seat.old seat.new }
     ensures counted { Counts 1 result steps.old steps.new }
@@ -262,6 +260,7 @@ pub fn right_times<L: Ledger>(
     ensures within { OnOk result (in_reach f.now (variable_polynomial seat.old.algebra v) ≡ true) }
     ensures over { result ≡ Err ProductFault.DegreeOver →
         in_reach f.now (variable_polynomial seat.old.algebra v) ≡ false }
+    ensures reach { AnswersWithin (in_reach f.now (variable_polynomial seat.old.algebra v)) result }
     ensures algebra { seat.new.algebra ≡ seat.old.algebra }
     ensures kept { Keeps seat.old seat.new }
     ensures counted { Counts 1 result steps.old steps.new }
@@ -291,11 +290,12 @@ pub fn times<L: Ledger>(
     ensures sorted { IfOk result (λ r. IsPolynomial seat.old.algebra.p seat.old.algebra.order r) }
     ensures within { OnOk result (in_reach f.now g.now ≡ true) }
     ensures over { result ≡ Err ProductFault.DegreeOver → in_reach f.now g.now ≡ false }
+    ensures reach { AnswersWithin (in_reach f.now g.now) result }
     ensures algebra { seat.new.algebra ≡ seat.old.algebra }
     ensures kept { Keeps seat.old seat.new }
     ensures counted { Counts (length f.now) result steps.old steps.new }
 {
-    if f.degree() + g.degree() > DEGREE_LIMIT {
+    if !algebra::in_reach(f, g) {
         return Err(ProductFault::DegreeOver);
     }
     Ok(times_within(alloc, seat, f, g, steps)?)

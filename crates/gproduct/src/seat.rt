@@ -2,8 +2,8 @@
 
 ghost use Rattle.std.specs.Prelude.{◌≡◌, ◌<◌, ◌≤◌, ℕ, IsTrue, Some, None, Ok, IfOk, IfSome, MatchOption, length, slice_index_or, slice_set};
 ghost use Rattle.closed_forms.specs.Kinds.{HasKind};
-ghost use Rattle.gproduct.specs.Passing.{Passes};
-ghost use Rattle.gproduct.specs.Places.{IsPlace, place_value};
+ghost use Rattle.gproduct.specs.Inside.Passing.{Passes};
+ghost use Rattle.gproduct.specs.Places.{IsPlace, place_value, cell_count};
 ghost use Rattle.gproduct.specs.Seats.{Knows, Keeps, Teaches};
 ghost use Rattle.gproduct.specs.declared.place.Place.{Place};
 ghost use Rattle.gproduct.specs.declared.seat.Learned.TheVariants.{Shared};
@@ -59,9 +59,10 @@ impl<'r> Table<'r> {
     pub fn seat<'t>(&'t self, alloc: Global) -> Result<TableSeat<'t, 'r>, AllocError>
         ensures algebra { IfOk result (λ s. s.algebra ≡ self.now) }
         ensures nothing { IfOk result (λ s. (place : Place) → ¬ (Knows s place)) }
+        ensures slots { IfOk result (λ s. length s.seen ≡ cell_count self.now.order.vars) }
     {
         let mut seen: Vec<Slot<'t, 'r>> = Vec::with_capacity(alloc, self.count())?;
-        for _ in 0..self.count() {
+        for _slot in 0..self.count() {
             seen.push(Slot { cell: None })?;
         }
         Ok(TableSeat { table: self, seen })

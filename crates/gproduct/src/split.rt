@@ -4,7 +4,7 @@ ghost use Rattle.std.specs.Prelude.{◌≡◌, ◌+◌, ◌<◌, ◌≤◌, IfOk
 ghost use Rattle.monomials.specs.Monomials.{degree};
 ghost use Rattle.monomials.specs.Polynomials.{HasNumbers, HasVars, IsPolynomial, poly_degree};
 ghost use Rattle.gpoly.specs.Terms.{pairs_of};
-ghost use Rattle.gproduct.specs.Passing.{IsParted, IsSplit};
+ghost use Rattle.gproduct.specs.Inside.Passing.{IsParted, IsSplit};
 
 use crate::seat::TableSeat;
 use gpoly::{GPoly, Term};

@@ -1,12 +1,13 @@
 //! Two powers in the wrong order, and their product as a polynomial.
 
 ghost use Rattle.std.specs.Prelude.{◌≡◌, ◌+◌, ◌<◌, ◌≤◌, ◌∷◌, [], ◌++◌, replicate, map, IfOk, IfSome};
-ghost use Rattle.monomials.specs.Polynomials.{Each, IsPolynomial};
+ghost use Rattle.monomials.specs.Polynomials.{Each, IsPolynomial, poly_degree};
 ghost use Rattle.gpoly.specs.Terms.{pairs_of};
 ghost use Rattle.word_model.specs.Words.{monomial_of, normal_form};
+ghost use Rattle.word_model.specs.Products.{product};
 ghost use Rattle.closed_forms.specs.Forms.{pairs_of as powers_of};
 ghost use Rattle.closed_forms.specs.Kinds.{HasKind};
-ghost use Rattle.gproduct.specs.Swaps.{IsSwap, swap_word};
+ghost use Rattle.gproduct.specs.Inside.Swaps.{IsSwap, swap_word};
 
 use algebra::{Algebra, ProductFault};
 use closed_forms::{PairKind, Term2, power_product};
@@ -24,7 +25,7 @@ pub(crate) struct Swap {
 }
 
 impl Swap {
-    /// The normal form: by a formula where the pair's relation has a kind, and else by rewriting.
+    /// The normal form: by a formula where the pair's relation has a kind, and else a letter at a time.
     pub(crate) fn value(
         self,
         alloc: Global,
@@ -37,7 +38,7 @@ impl Swap {
     {
         match kind {
             Some(kind) => self.by_formula(alloc, alg, &kind),
-            None => self.by_rewriting(alloc, alg),
+            None => self.by_letters(alloc, alg),
         }
     }
 
@@ -58,19 +59,19 @@ impl Swap {
         GPoly::from_terms(alloc, alg.field(), alg.order(), &terms)
     }
 
-    // The normal form, by rewriting words.
-    fn by_rewriting(self, alloc: Global, alg: &Algebra) -> Result<GPoly, AllocError>
+    // The normal form, by multiplying `x_i^b` by one letter `x_j` after another from the left: after
+    // each, like terms are added up.
+    fn by_letters(self, alloc: Global, alg: &Algebra) -> Result<GPoly, AllocError>
         requires { IsSwap alg.now self }
         ensures { IfOk result (λ r. r ≡ normal_form alg.now (swap_word self)) }
     {
-        let _n = alg.n();
-        let high = self.power(alloc, alg, 0, self.a)?;
-        let low = self.power(alloc, alg, self.b, 0)?;
-        match alg.plain_product(alloc, &high, &low) {
-            Ok(product) => Ok(product),
-            Err(ProductFault::Memory) => Err(AllocError),
-            Err(ProductFault::DegreeOver) => unreachable!(),
+        let n = alg.n();
+        let letter = GPoly::of_term(alloc, 1, Expo::var(n, self.j))?;
+        let mut value = self.power(alloc, alg, self.b, 0)?;
+        for _count in 0..self.a {
+            value = product_within(alloc, alg, &letter, &value)?;
         }
+        Ok(value)
     }
 
     // The polynomial `x_i^x x_j^y`.
@@ -118,5 +119,19 @@ impl Swap {
         exponents[usize::from(self.i) - 1] = x;
         exponents[usize::from(self.j) - 1] = y;
         Expo::of(&exponents[..n])
+    }
+}
+
+// The product of polynomials whose degrees add up to at most 4095, by rewriting words.
+fn product_within(alloc: Global, alg: &Algebra, f: &GPoly, g: &GPoly) -> Result<GPoly, AllocError>
+    requires f_sorted { IsPolynomial alg.now.p alg.now.order f.now }
+    requires g_sorted { IsPolynomial alg.now.p alg.now.order g.now }
+    requires within { poly_degree f.now + poly_degree g.now ≤ 4095 }
+    ensures { IfOk result (λ r. r ≡ product alg.now f.now g.now) }
+{
+    match alg.plain_product(alloc, f, g) {
+        Ok(product) => Ok(product),
+        Err(ProductFault::Memory) => Err(AllocError),
+        Err(ProductFault::DegreeOver) => unreachable!(),
     }
 }

@@ -2,8 +2,8 @@
 
 ghost use Rattle.std.specs.Prelude.{◌≡◌, ◌<◌, ◌≤◌, ◌↔◌, IsTrue, IfOk, IfSome, length};
 ghost use Rattle.closed_forms.specs.Kinds.{HasKind};
-ghost use Rattle.gproduct.specs.Passing.{Passes};
-ghost use Rattle.gproduct.specs.Places.{IsPlace, place_value};
+ghost use Rattle.gproduct.specs.Inside.Passing.{Passes};
+ghost use Rattle.gproduct.specs.Places.{IsPlace, place_value, cell_count};
 
 use crate::kinds::{kept_kind, kinds_of};
 use crate::pairs::{Pair, noncommuting, none_meets};
@@ -37,14 +37,17 @@ pub struct Table<'r> {
 
 impl<'r> Model for Table<'r> {
     ghost use Rattle.word_model.specs.Words.{Algebra as GAlgebra};
-    ghost use Rattle.gproduct.specs.Passing.{HasNoncommuting};
-    ghost use Rattle.gproduct.specs.Swaps.{AreKinds};
+    ghost use Rattle.std.specs.Prelude.{◌≡◌, length};
+    ghost use Rattle.gproduct.specs.Places.{cell_count};
+    ghost use Rattle.gproduct.specs.Inside.Passing.{HasNoncommuting};
+    ghost use Rattle.gproduct.specs.Inside.Swaps.{AreKinds};
 
     ghost Value = { GAlgebra };
 
     ghost view = { λ t. t.algebra.now };
 
-    ghost invariant = { λ t. AreKinds t.algebra.now t.kinds.items × HasNoncommuting t.algebra.now t.noncommuting.items };
+    ghost invariant = { λ t. AreKinds t.algebra.now t.kinds.items × HasNoncommuting t.algebra.now t.noncommuting.items
+        × (length t.cells.items ≡ cell_count t.algebra.now.order.vars) };
 }
 
 impl<'r> Table<'r> {
@@ -71,7 +74,9 @@ impl<'r> Table<'r> {
     }
 
     // How many cells there are.
-    pub(crate) fn count(&self) -> usize {
+    pub(crate) fn count(&self) -> usize
+        ensures { result ≡ cell_count self.now.order.vars }
+    {
         self.cells.len()
     }
 
@@ -166,10 +171,11 @@ impl<'r> Filled<'r> {
 fn empty_cells<'r>(alloc: Global, n: usize) -> Result<Vec<OnceBox<Filled<'r>>>, AllocError>
     requires some { 1 ≤ n }
     requires few { n ≤ 16 }
+    ensures { IfOk result (λ cells. length cells.items ≡ cell_count n) }
 {
     let count = n * (n - 1) / 2 * 256;
     let mut cells = Vec::with_capacity(alloc, count)?;
-    for _ in 0..count {
+    for _cell in 0..count {
         cells.push(OnceBox::new(alloc))?;
     }
     Ok(cells)

@@ -4,11 +4,10 @@ ghost use Rattle.std.specs.Prelude.{◌≡◌, ◌≤◌, ◌<◌, IfOk};
 ghost use Rattle.monomials.specs.Polynomials.{IsPolynomial};
 
 use super::algebras::{named, poly, text_of, three};
-use crate::front::power;
 use crate::{Steps, Table, right_times, term_times, times};
 use algebra::{Algebra, ProductFault};
 use gpoly::{GPoly, Term};
-use monomials::Order;
+use monomials::{Expo, Order};
 use prime_field::Field;
 use std::alloc::{AllocError, Global};
 use std::marker::Brand;
@@ -126,7 +125,7 @@ fn high_power(alloc: Global, field: Field, order: &Order, k: u16) -> Result<GPol
     requires small { k ≤ 4095 }
     ensures { IfOk result (λ f. IsPolynomial field order.now f) }
 {
-    let mono = power(3, 1, k);
+    let mono = Expo::power(3, 1, k);
     let high_power = GPoly::from_terms(alloc, field, order, &[Term { coef: 1, mono }])?;
     Ok(high_power)
 }

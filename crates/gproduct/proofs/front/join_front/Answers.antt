@@ -3,7 +3,7 @@ use Rattle.std.proofs.Math.ListN.{length-replicate}
 use Rattle.monomials.proofs.Exponents.{length-zip_with}
 use Rattle.monomials.proofs.Keys.{Each-first, Each-second}
 use Rattle.word_model.specs.Words.{sorted_word}
-use Rattle.gproduct.specs.Factors.{HaveVars, stacked_word}
+use Rattle.gproduct.specs.Inside.Factors.{HaveVars, stacked_word}
 use Rattle.gproduct.proofs.SortedWords.{InOrder, sorted_word-plus}
 use Rattle.gproduct.proofs.Stacks.{stacked_word-append, sorted_word-one, degrees-le}
 use Rattle.gproduct.proofs.front.join_front.Goals as goal

@@ -1,6 +1,6 @@
 use Rattle.std.proofs.Common.{◌≡◌, ◌++◌, length}
 use Rattle.word_model.specs.Words.{sorted_word}
-use Rattle.gproduct.specs.Factors.{HaveVars, stacked_word}
+use Rattle.gproduct.specs.Inside.Factors.{HaveVars, stacked_word}
 use Rattle.gproduct.proofs.front.join_front.Given as goal
 
 abbrev pub invariant-loop-right : goal.invariant-loop-right

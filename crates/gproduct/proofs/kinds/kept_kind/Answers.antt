@@ -2,7 +2,7 @@ use Rattle.std.proofs.Common.{◌≡◌, ◌+◌, ◌-◌, ◌*◌, ◌/◌, ◌
 use Rattle.word_model.specs.Words.{Algebra}
 use Rattle.closed_forms.specs.declared.PairKind.{PairKind}
 use Rattle.closed_forms.specs.Kinds.{HasKind}
-use Rattle.gproduct.specs.Swaps.{AreKinds}
+use Rattle.gproduct.specs.Inside.Swaps.{AreKinds}
 use Rattle.gproduct.proofs.kinds.kept_kind.Goals as goal
 
 -- what stands at the pair's place is its kind

@@ -4,7 +4,7 @@ use Rattle.std.proofs.lemmas.List.{get_or-append-add}
 use Rattle.word_model.specs.Words.{Algebra}
 use Rattle.closed_forms.specs.declared.PairKind.{PairKind}
 use Rattle.closed_forms.specs.Kinds.{HasKind}
-use Rattle.gproduct.specs.Swaps.{AreKinds}
+use Rattle.gproduct.specs.Inside.Swaps.{AreKinds}
 use Rattle.gproduct.proofs.kinds.kinds_of.Goals as goal
 
 before_or_from : (a b : ℕ) → (a < b) ⊎ (a ≡ b + (a - b))

@@ -1,5 +1,5 @@
 use Rattle.std.proofs.Common.{◌≡◌, length}
-use Rattle.gproduct.specs.Swaps.{AreKinds}
+use Rattle.gproduct.specs.Inside.Swaps.{AreKinds}
 use Rattle.gproduct.proofs.kinds.kinds_of.Given as goal
 
 abbrev pub invariant-loop-place : goal.invariant-loop-place

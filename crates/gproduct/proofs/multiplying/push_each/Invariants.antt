@@ -1,6 +1,6 @@
 use Rattle.std.proofs.Common.{◌≡◌, ◌*◌, ◌%◌, ◌++◌, ◌∷◌, [], length, map, drop}
 use Rattle.gpoly.specs.Terms.{pairs_of}
-use Rattle.gproduct.specs.Factors.{factor_count, products_in}
+use Rattle.gproduct.specs.Inside.Factors.{factor_count, products_in}
 use Rattle.gproduct.proofs.multiplying.push_each.Given as goal
 
 abbrev pub invariant-loop-term : goal.invariant-loop-term

@@ -1,13 +1,13 @@
 use Rattle.std.proofs.Common.{◌≡◌, refl, subst₂, IsTrue, ◌-◌, ◌*◌, ◌%◌, ◌<◌, ◌≤◌, ◌∙◌, ◌++◌, ◌∷◌, [], length, map, get_or, replicate, sym, ap, subst, arith, ℕ}
 use Rattle.std.proofs.lemmas.Result.{on_ok_weaker}
-use Rattle.monomials.specs.Monomials.{Monomial, minus, divides}
+use Rattle.monomials.specs.Monomials.{Monomial, minus, divides, power}
 use Rattle.monomials.specs.Orders.{order_cmp}
 use Rattle.monomials.specs.Polynomials.{Polynomial, HasNumbers}
 use Rattle.monomials.proofs.Operations.{HasNumbers-canonical}
 use Rattle.gpoly.specs.Terms.{pairs_of}
 use Rattle.word_model.specs.Words.{Algebra, normal_form}
 use Rattle.word_model.proofs.NormalForms.{normal_form_is_polynomial}
-use Rattle.gproduct.specs.Factors.{power, ProductSum, products_in, between, IsSwap}
+use Rattle.gproduct.specs.Inside.Factors.{ProductSum, products_in, between, IsExchange}
 use Rattle.gproduct.proofs.SortedWords.{divides-power}
 use Rattle.gproduct.proofs.multiplying.push_swapped.Goals as goal
 use Rattle.gproduct.proofs.multiplying.push_swapped.Goals.{In_ok-a}
@@ -63,7 +63,7 @@ returns-clause-products c =
     let right : c.minus-right.result ≡ minus x.right (power A.order.vars x.low c.in_ok-a.b) =
     c.minus-right.ensures ∙ ap (minus x.right) (c.power-2.ensures ∙ ap (λ n. power n x.low c.in_ok-a.b) n) in
     let added : ProductSum = map (λ t. ((k * t.0) % A.p, between A.order.vars x c.in_ok-a.a c.in_ok-a.b c.args.tail.now t.1)) (normal_form A w) in
-    let swap : IsSwap A k x c.args.tail.now added = record {
+    let swap : IsExchange A k x c.args.tail.now added = record {
       a = c.in_ok-a.a;
       b = c.in_ok-a.b;
       a_some = c.in_ok-a.ensures.a_within.0;

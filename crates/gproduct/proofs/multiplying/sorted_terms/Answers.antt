@@ -5,7 +5,7 @@ use Rattle.gpoly.specs.Terms.{pair_of, pairs_of}
 use Rattle.word_model.specs.Words.{Algebra, sorted_word}
 use Rattle.word_model.specs.Conditions.{IsGAlgebra}
 use Rattle.gproduct.specs.declared.front.Crossing.{Crossing}
-use Rattle.gproduct.specs.Factors.{HaveVars, ProductSum, IsCrossing, IsSwap, products_in, stacked_word, words_of}
+use Rattle.gproduct.specs.Inside.Factors.{HaveVars, ProductSum, IsCrossing, IsExchange, products_in, stacked_word, words_of}
 use Rattle.gproduct.proofs.Stacks.{degrees-le}
 use Rattle.gproduct.proofs.MultipliedOut.{IsMultiplying, sum_measure, last_number, last_short, go_sorted, sorted_falls, go_on, swapped_falls, finish}
 use Rattle.gproduct.proofs.multiplying.sorted_terms.Goals as goal
@@ -72,7 +72,7 @@ push_swapped-requires-clause-reach c =
 -- what was added in place of the last product, and how it was found
 module _ (A : Algebra) (accepted : IsGAlgebra A) (B : Algebra) (same : B ≡ A) (n : ℕ) (vars : n ≡ A.order.vars)
     (start rest new : ProductSum) (k : ℕ) (fs tail tail' : List Monomial) (x : Crossing) (tails : tail' ≡ tail)
-    (added : (f : ProductSum) × (IsSwap B k x tail' f × (new ≡ rest ++ f)))
+    (added : (f : ProductSum) × (IsExchange B k x tail' f × (new ≡ rest ++ f)))
     (crossed : IsCrossing n x × HaveVars n tail × (stacked_word fs ≡ sorted_word x.left ++ (sorted_word x.right ++ stacked_word tail))) where
   crossing : IsCrossing A.order.vars x
   crossing = subst (λ n. IsCrossing n x) vars crossed.0
@@ -80,8 +80,8 @@ module _ (A : Algebra) (accepted : IsGAlgebra A) (B : Algebra) (same : B ≡ A) 
   tail_vars : HaveVars A.order.vars tail
   tail_vars = subst (λ n. HaveVars n tail) vars crossed.1
 
-  swap : IsSwap A k x tail added.0
-  swap = subst₂ (λ (B : Algebra) (tail : List Monomial). IsSwap B k x tail added.0) same tails added.1.0
+  swap : IsExchange A k x tail added.0
+  swap = subst₂ (λ (B : Algebra) (tail : List Monomial). IsExchange B k x tail added.0) same tails added.1.0
 
   swapped : (done : List (ℕ × Monomial)) → IsMultiplying A start (rest ++ (k, fs) ∷ []) done → IsMultiplying A start new done
   swapped done h =

@@ -1,7 +1,7 @@
 use Rattle.std.proofs.Common.{◌≡◌, length}
 use Rattle.gpoly.specs.Terms.{pairs_of}
 use Rattle.gproduct.specs.Seats.{Keeps}
-use Rattle.gproduct.specs.Factors.{factor_count, products_in, words_of}
+use Rattle.gproduct.specs.Inside.Factors.{factor_count, products_in, words_of}
 use Rattle.gproduct.proofs.MultipliedOut.{IsMultiplying, sum_measure}
 use Rattle.gproduct.proofs.multiplying.sorted_terms.Given as goal
 

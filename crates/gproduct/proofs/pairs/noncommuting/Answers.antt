@@ -5,7 +5,7 @@ use Rattle.monomials.specs.Polynomials.{Each}
 use Rattle.monomials.proofs.Keys.{Each-append}
 use Rattle.word_model.specs.Words.{Algebra}
 use Rattle.gproduct.specs.declared.pairs.Pair.{Pair}
-use Rattle.gproduct.specs.Passing.{IsCommuting, IsPair, HasNoncommuting}
+use Rattle.gproduct.specs.Inside.Passing.{IsCommuting, IsPair, HasNoncommuting}
 use Rattle.gproduct.proofs.pairs.noncommuting.Goals as goal
 use Rattle.gproduct.proofs.pairs.noncommuting.Goals.{then-is_noncommuting+in_ok-push, else-is_noncommuting}
 

@@ -1,7 +1,7 @@
 use Rattle.std.proofs.Common.{ℕ, ◌<◌, ◌≤◌, ◌+◌, ◌/◌, ◌%◌, ◌⊎◌}
 use Rattle.std.specs.List.{Contains}
 use Rattle.monomials.specs.Polynomials.{Each}
-use Rattle.gproduct.specs.Passing.{IsCommuting, IsPair}
+use Rattle.gproduct.specs.Inside.Passing.{IsCommuting, IsPair}
 use Rattle.gproduct.proofs.pairs.noncommuting.Given as goal
 
 abbrev pub invariant-loop-place : goal.invariant-loop-place

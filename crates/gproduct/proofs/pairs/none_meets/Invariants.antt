@@ -1,6 +1,6 @@
 use Rattle.std.proofs.Common.{take}
 use Rattle.monomials.specs.Polynomials.{Each}
-use Rattle.gproduct.specs.Passing.{IsFree}
+use Rattle.gproduct.specs.Inside.Passing.{IsFree}
 use Rattle.gproduct.proofs.pairs.none_meets.Given as goal
 
 abbrev pub invariant-loop-pair : goal.invariant-loop-pair

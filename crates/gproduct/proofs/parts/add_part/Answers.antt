@@ -1,6 +1,6 @@
 use Rattle.std.proofs.Common.{◌∙◌, ◌++◌, ◌∷◌, [], sym, ap, subst, arith}
 use Rattle.monomials.proofs.Keys.{Each-first, Each-second}
-use Rattle.gproduct.specs.Parts.{sum_of, AreSorted}
+use Rattle.gproduct.specs.Inside.Parts.{sum_of, AreSorted}
 use Rattle.gproduct.proofs.Sums.{last_two}
 use Rattle.gproduct.proofs.parts.add_part.Goals as goal
 

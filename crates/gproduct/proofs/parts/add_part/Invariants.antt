@@ -1,6 +1,6 @@
 use Rattle.std.proofs.Common.{◌≡◌, ◌++◌, ◌∷◌, [], length}
 use Rattle.monomials.specs.Polynomials.{IsPolynomial}
-use Rattle.gproduct.specs.Parts.{sum_of, AreSorted}
+use Rattle.gproduct.specs.Inside.Parts.{sum_of, AreSorted}
 use Rattle.gproduct.proofs.parts.add_part.Given as goal
 
 abbrev pub invariant-loop-last : goal.invariant-loop-last

@@ -2,7 +2,7 @@ use Rattle.std.proofs.Common.{◌∙◌, ◌++◌, ◌∷◌, [], sym, ap, subst
 use Rattle.monomials.specs.Orders.{order_cmp}
 use Rattle.monomials.specs.Polynomials.{IsPolynomial, poly_add}
 use Rattle.monomials.proofs.Keys.{Each-first, Each-second}
-use Rattle.gproduct.specs.Parts.{sum_of, AreSorted}
+use Rattle.gproduct.specs.Inside.Parts.{sum_of, AreSorted}
 use Rattle.gproduct.proofs.Sums.{but_last, plus_nothing, IsPolynomial-sum_of}
 use Rattle.gproduct.proofs.parts.total.Goals as goal
 use Rattle.gproduct.proofs.parts.total.Goals.{In-Some}

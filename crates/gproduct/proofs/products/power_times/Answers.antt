@@ -1,10 +1,10 @@
 use Rattle.std.proofs.Common.{◌≡◌, ℕ, ◌<◌, ◌∙◌, ◌∷◌, [], refl, sym, ap, subst}
 use Rattle.std.proofs.lemmas.Result.{IfOk-weaker}
+use Rattle.monomials.specs.Monomials.{power}
 use Rattle.word_model.specs.Words.{Algebra}
 use Rattle.word_model.specs.Conditions.{IsGAlgebra}
 use Rattle.word_model.specs.Products.{product}
-use Rattle.gproduct.specs.Factors.{power}
-use Rattle.gproduct.specs.Passing.{IsSplit}
+use Rattle.gproduct.specs.Inside.Passing.{IsSplit}
 use Rattle.gproduct.proofs.Parted.{joined_by, none_left}
 use Rattle.gproduct.proofs.Stages.{no_power}
 use Rattle.gproduct.proofs.products.power_times.Goals as goal

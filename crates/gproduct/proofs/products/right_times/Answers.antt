@@ -6,7 +6,7 @@ use Rattle.monomials.proofs.Operations.{HasNumbers-canonical}
 use Rattle.word_model.specs.Words.{Algebra, word_value}
 use Rattle.word_model.proofs.Associativity.{length-variable}
 use Rattle.word_model.proofs.TermProducts.{degree-variable}
-use Rattle.gproduct.specs.Factors.{products_in, words_of, IsReady}
+use Rattle.gproduct.specs.Inside.Factors.{products_in, words_of, IsReady}
 use Rattle.gproduct.proofs.Stages.{behind_each, behind_value, behind_ready}
 use Rattle.gproduct.proofs.products.right_times.Goals as goal
 use Rattle.gproduct.proofs.products.right_times.Given.{Over}

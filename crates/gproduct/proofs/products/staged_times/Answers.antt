@@ -2,10 +2,10 @@ use Rattle.std.proofs.Common.{◌≡◌, ◌∙◌, ◌∷◌, [], refl, sym, ap
 use Rattle.monomials.specs.Orders.{order_cmp}
 use Rattle.monomials.specs.Polynomials.{HasNumbers, IsPolynomial, poly_scale}
 use Rattle.monomials.proofs.Operations.{HasNumbers-canonical}
+use Rattle.monomials.specs.Monomials.{power}
 use Rattle.word_model.specs.Words.{Algebra}
 use Rattle.word_model.specs.Conditions.{IsGAlgebra}
 use Rattle.word_model.specs.Products.{product}
-use Rattle.gproduct.specs.Factors.{power}
 use Rattle.gproduct.proofs.Stages.{IsStage, first_stage, next_stage, last_stage, stage_degree}
 use Rattle.gproduct.proofs.products.staged_times.Goals as goal
 

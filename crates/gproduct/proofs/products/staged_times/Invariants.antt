@@ -1,6 +1,6 @@
 use Rattle.std.proofs.Common.{◌≡◌, [], ◌≤◌, length}
 use Rattle.gproduct.specs.Seats.{Keeps}
-use Rattle.gproduct.specs.Factors.{factor_count}
+use Rattle.gproduct.specs.Inside.Factors.{factor_count}
 use Rattle.gproduct.proofs.Stages.{IsStage}
 use Rattle.gproduct.proofs.products.staged_times.Given as goal
 

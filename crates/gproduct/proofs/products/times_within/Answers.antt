@@ -10,8 +10,8 @@ use Rattle.gpoly.specs.Terms.{pair_of, pairs_of}
 use Rattle.gpoly.proofs.TermLists.{numbers_at, vars_at}
 use Rattle.word_model.specs.Words.{Algebra}
 use Rattle.word_model.specs.Products.{product}
-use Rattle.gproduct.specs.Factors.{factor_count}
-use Rattle.gproduct.specs.Parts.{sum_of, AreSorted}
+use Rattle.gproduct.specs.Inside.Factors.{factor_count}
+use Rattle.gproduct.specs.Inside.Parts.{sum_of, AreSorted}
 use Rattle.gproduct.proofs.Sums.{product_more, nothing_times, degree_at}
 use Rattle.gproduct.proofs.products.times_within.Goals as goal
 

@@ -2,8 +2,8 @@ use Rattle.std.proofs.Common.{◌≡◌, [], ◌+◌, length, take}
 use Rattle.gpoly.specs.Terms.{pairs_of}
 use Rattle.word_model.specs.Products.{product}
 use Rattle.gproduct.specs.Seats.{Keeps}
-use Rattle.gproduct.specs.Factors.{factor_count}
-use Rattle.gproduct.specs.Parts.{sum_of, AreSorted}
+use Rattle.gproduct.specs.Inside.Factors.{factor_count}
+use Rattle.gproduct.specs.Inside.Parts.{sum_of, AreSorted}
 use Rattle.gproduct.proofs.products.times_within.Given as goal
 
 abbrev pub invariant-loop-term : goal.invariant-loop-term

@@ -6,7 +6,7 @@ use Rattle.gpoly.specs.declared.Term.{Term}
 use Rattle.gpoly.specs.Terms.{pair_of, pairs_of}
 use Rattle.word_model.specs.Words.{Algebra}
 use Rattle.word_model.specs.Conditions.{IsGAlgebra}
-use Rattle.gproduct.specs.Passing.{IsParted}
+use Rattle.gproduct.specs.Inside.Passing.{IsParted}
 use Rattle.gproduct.proofs.Sums.{pairs_more, term_at}
 use Rattle.gproduct.proofs.Parted.{nothing_parted, passed_more, rest_more}
 use Rattle.gproduct.proofs.split.parted.Goals as goal

@@ -1,6 +1,6 @@
 use Rattle.std.proofs.Common.{take}
 use Rattle.gpoly.specs.Terms.{pairs_of}
-use Rattle.gproduct.specs.Passing.{IsParted}
+use Rattle.gproduct.specs.Inside.Passing.{IsParted}
 use Rattle.gproduct.proofs.split.parted.Given as goal
 
 abbrev pub invariant-loop-term : goal.invariant-loop-term

@@ -7,7 +7,7 @@ use Rattle.monomials.proofs.Operations.{HasNumbers-canonical}
 use Rattle.gpoly.specs.Terms.{pairs_of}
 use Rattle.word_model.specs.Words.{Algebra}
 use Rattle.word_model.specs.Conditions.{IsGAlgebra}
-use Rattle.gproduct.specs.Passing.{IsParted, IsSplit}
+use Rattle.gproduct.specs.Inside.Passing.{IsParted, IsSplit}
 use Rattle.gproduct.proofs.Parted.{split_sums_by}
 use Rattle.gproduct.proofs.split.split.Goals as goal
 

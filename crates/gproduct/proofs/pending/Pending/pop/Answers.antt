@@ -1,6 +1,6 @@
 use Rattle.std.proofs.Common.{◌≡◌, ℕ, ◌+◌, ◌-◌, ◌∙◌, ◌++◌, ◌∷◌, [], length, take, drop, sym, ap, arith}
 use Rattle.std.proofs.lemmas.List.{take_rest, length-take-le}
-use Rattle.gproduct.specs.Factors.{products_in, factor_count}
+use Rattle.gproduct.specs.Inside.Factors.{products_in, factor_count}
 use Rattle.gproduct.proofs.Stacks.{factor_count-push, products_in-pop}
 use Rattle.gproduct.proofs.pending.Pending.pop.Goals as goal
 use Rattle.gproduct.proofs.pending.Pending.pop.Goals.{In-Some}

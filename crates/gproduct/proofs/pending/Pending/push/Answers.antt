@@ -1,5 +1,5 @@
 use Rattle.std.proofs.Common.{◌≡◌, ◌+◌, ◌∙◌, ◌++◌, length, sym, ap, arith, append_assoc, length-append}
-use Rattle.gproduct.specs.Factors.{products_in, factor_count}
+use Rattle.gproduct.specs.Inside.Factors.{products_in, factor_count}
 use Rattle.gproduct.specs.declared.pending.Open.{Open}
 use Rattle.gproduct.proofs.Stacks.{factor_count-push, products_in-push}
 use Rattle.gproduct.proofs.pending.Pending.push.Goals as goal

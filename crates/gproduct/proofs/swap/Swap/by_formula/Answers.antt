@@ -6,7 +6,7 @@ use Rattle.monomials.specs.Polynomials.{Each, HasNumbers, HasVars, from_terms}
 use Rattle.gpoly.specs.Terms.{pairs_of}
 use Rattle.word_model.specs.Words.{Algebra, normal_form}
 use Rattle.closed_forms.specs.Forms.{pairs_of as powers_of, Powers, Terms, IsNumber, in_algebra}
-use Rattle.gproduct.specs.Swaps.{swap_word}
+use Rattle.gproduct.specs.Inside.Swaps.{swap_word}
 use Rattle.gproduct.proofs.ClosedTerms.{IsUpTo, closed_form_up_to, in_variables, numbers_in, vars_in, small_in, small_powers}
 use Rattle.gproduct.proofs.swap.Swap.by_formula.Goals as goal
 

@@ -1,7 +1,7 @@
 use Rattle.std.proofs.Common.{IfSome, sym, subst}
 use Rattle.word_model.specs.Words.{Algebra}
 use Rattle.closed_forms.specs.Kinds.{HasKind}
-use Rattle.gproduct.specs.Swaps.{AreKinds}
+use Rattle.gproduct.specs.Inside.Swaps.{AreKinds}
 use Rattle.gproduct.proofs.table.Table.kind.Goals as goal
 
 pub returns : goal.returns

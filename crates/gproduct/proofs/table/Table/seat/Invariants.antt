@@ -1,5 +1,8 @@
-use Rattle.std.proofs.Common.{◌≡◌, ℕ, None, slice_index_or}
+use Rattle.std.proofs.Common.{◌≡◌, ℕ, None, length, slice_index_or}
 use Rattle.gproduct.proofs.table.Table.seat.Given as goal
 
-abbrev pub invariant-loop : goal.invariant-loop
-invariant-loop l = (k : ℕ) → slice_index_or l.seen.items k (record { cell = None }) ≡ record { cell = None }
+abbrev pub invariant-loop-slot : goal.invariant-loop-slot
+invariant-loop-slot l = record {
+  free : (k : ℕ) → slice_index_or l.seen.items k (record { cell = None }) ≡ record { cell = None };
+  count : length l.seen.items ≡ l._slot;
+}

@@ -1,4 +1,4 @@
--- Sums of many polynomials. Private contracts alone cite this.
+-- Sums of many polynomials.
 use Rattle.std.specs.Prelude.{ℕ, List, [], ◌∷◌}
 use Rattle.monomials.specs.Orders.{RowOrder, order_cmp}
 use Rattle.monomials.specs.Polynomials.{Polynomial, Each, IsPolynomial, poly_add}

@@ -1,4 +1,4 @@
--- Products in which no letter crosses one that it does not commute with. Private contracts alone cite this.
+-- Products in which no letter crosses one that it does not commute with.
 use Rattle.std.specs.Prelude.{◌≡◌, ℕ, ◌+◌, ◌-◌, ◌*◌, ◌<◌, ◌≤◌, ◌⊎◌, [], List, slice_index}
 use Rattle.std.specs.List.{Contains}
 use Rattle.monomials.specs.Monomials.{Monomial, degree}
@@ -8,7 +8,7 @@ use Rattle.monomials.proofs.Weights.{weigh}
 use Rattle.word_model.specs.Words.{Algebra, c_of, d_of}
 use Rattle.word_model.proofs.NormalForms.{row_weight}
 use Rattle.gproduct.specs.declared.pairs.Pair.{Pair}
-use Rattle.gproduct.specs.Factors.{AreTerms}
+use Rattle.gproduct.specs.Inside.Factors.{AreTerms}
 
 -- x_j x_i = x_i x_j
 pub record IsCommuting (A : Algebra) (i j : ℕ) : Type 0 where

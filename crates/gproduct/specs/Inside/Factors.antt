@@ -1,16 +1,12 @@
--- Products of sorted monomials, and how they are multiplied out. Private contracts alone cite this.
+-- Products of sorted monomials, and how they are multiplied out.
 use Rattle.std.specs.Prelude.{◌≡◌, ℕ, ◌+◌, ◌-◌, ◌*◌, ◌%◌, ◌<◌, ◌≤◌, List, [], ◌∷◌, ◌++◌, length, map, replicate, take, drop, slice_index}
-use Rattle.monomials.specs.Monomials.{Monomial, degree, minus}
+use Rattle.monomials.specs.Monomials.{Monomial, degree, minus, power}
 use Rattle.monomials.specs.Polynomials.{Polynomial, Each, HasNumbers, HasVars}
 use Rattle.word_model.specs.Words.{Algebra, Word, WordSum, sorted_word, normal_form}
 use Rattle.gproduct.specs.declared.pending.Open.{Open}
 use Rattle.gproduct.specs.declared.front.Crossing.{Crossing}
 use Rattle.gproduct.specs.declared.front.Front.{Front}
 use Rattle.gproduct.specs.declared.front.Front.TheVariants.{Sorted, Crossed}
-
--- the monomial x_v^k in n variables
-abbrev pub power : ℕ → ℕ → ℕ → Monomial
-power n v k = replicate (v - 1) 0 ++ (k ∷ replicate (n - v) 0)
 
 -- ---- factors on a stack
 
@@ -81,7 +77,7 @@ between n c a b tail m = tail ++ (minus c.right (power n c.low b) ∷ m ∷ minu
 
 -- `added` is k times the product of the crossing's monomials and the tail, with powers of the two variables brought to their
 -- normal form
-pub record IsSwap (A : Algebra) (k : ℕ) (c : Crossing) (tail : List Monomial) (added : ProductSum) : Type 0 where
+pub record IsExchange (A : Algebra) (k : ℕ) (c : Crossing) (tail : List Monomial) (added : ProductSum) : Type 0 where
   pub a : ℕ
   pub b : ℕ
   pub a_some : 1 ≤ a

@@ -1,0 +1,4 @@
+pub mod Swaps
+pub mod Factors
+pub mod Parts
+pub mod Passing

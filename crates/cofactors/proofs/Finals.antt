@@ -9,9 +9,9 @@ use Rattle.word_model.specs.Conditions.{IsGAlgebra}
 use Rattle.word_model.specs.Reduction.{Reduced, reduce_tail}
 use Rattle.word_model.specs.Finished.{Final, is_kept, kept_from, kept, insert_final, with_final, finals_from, FinishedList, list_of, option_list, finished}
 use Rattle.word_model.specs.Machine.{IsElement}
-use Rattle.cofactors.specs.Sound.{IsStep}
+use Rattle.word_model.specs.Inside.Sound.{IsStep}
 use Rattle.cofactors.specs.Rows.{AreTails}
-use Rattle.cofactors.proofs.Traces.{reduce_tail-steps}
+use Rattle.word_model.proofs.Traces.{reduce_tail-steps}
 
 module _ (A : Algebra) (ok : IsGAlgebra A) where
   -- an element of the list, over m elements of the basis

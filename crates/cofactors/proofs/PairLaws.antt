@@ -7,6 +7,7 @@ use Rattle.monomials.specs.Monomials.{Monomial, lcm, divides}
 use Rattle.monomials.specs.Polynomials.{Polynomial, HasVars, IsCanonical, cons_nonzero, from_terms}
 use Rattle.monomials.specs.Leading.{leading_monomial, leading_coefficient}
 use Rattle.monomials.proofs.Exponents.{length-zip_with}
+use Rattle.word_model.proofs.CommonMultiples.{divides-lcm, divides-lcm_second}
 use Rattle.cofactors.specs.Rows.{pair_first, pair_second}
 
 -- the polynomial with the one term 1 m
@@ -20,21 +21,6 @@ leading-some cmp p (t ∷ f) h nonzero = h.0
 length-leading : (n : ℕ) (f : Polynomial) → HasVars n f → f ≢ [] → length (leading_monomial f) ≡ n
 length-leading n [] vars nonzero = absurd (nonzero refl)
 length-leading n (t ∷ f) vars nonzero = vars.0
-
-divides-lcm_first : (a b : Monomial) → length a ≡ length b → divides a (lcm a b) ≡ true
-divides-lcm_first [] b e = refl
-divides-lcm_first (x ∷ a) [] e = absurd (omega arith)
-divides-lcm_first (x ∷ a) (y ∷ b) e =
-    let le : x ≤ max x y = omega arith in
-    and_from (nat_le x (max x y)) (divides a (lcm a b)) (le-leb x (max x y) le) (divides-lcm_first a b (omega arith))
-
-divides-lcm_second : (a b : Monomial) → length a ≡ length b → divides b (lcm a b) ≡ true
-divides-lcm_second [] [] e = refl
-divides-lcm_second [] (y ∷ b) e = absurd (omega arith)
-divides-lcm_second (x ∷ a) [] e = absurd (omega arith)
-divides-lcm_second (x ∷ a) (y ∷ b) e =
-    let le : y ≤ max x y = omega arith in
-    and_from (nat_le y (max x y)) (divides b (lcm a b)) (le-leb y (max x y) le) (divides-lcm_second a b (omega arith))
 
 -- what is known of the leading monomials of two polynomials, of their least common multiple, and of the quotients
 pub record Reaches (n : ℕ) (f g : Polynomial) : Type 0 where
@@ -57,7 +43,7 @@ reaches n f g f_has g_has f_nonzero g_nonzero =
       f_vars = la;
       g_vars = lb;
       lcm_vars = ll;
-      f_divides = divides-lcm_first a b (la ∙ sym lb);
+      f_divides = divides-lcm a b (la ∙ sym lb);
       g_divides = divides-lcm_second a b (la ∙ sym lb);
       first_vars = length-zip_with (λ x y. x - y) (lcm a b) a (ll ∙ sym la) ∙ ll;
       second_vars = length-zip_with (λ x y. x - y) (lcm a b) b (ll ∙ sym lb) ∙ ll;

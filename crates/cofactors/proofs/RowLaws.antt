@@ -19,7 +19,7 @@ use Rattle.word_model.specs.declared.records.TraceStep.{TraceStep}
 use Rattle.word_model.specs.declared.records.Entry.{Entry}
 use Rattle.word_model.specs.declared.records.Entry.TheVariants.{Skipped, Zero, New}
 use Rattle.word_model.proofs.TermProducts.{product-zero}
-use Rattle.cofactors.specs.Sound.{IsStep, IsNamed, IsSound, behind, behind_all, AreSound}
+use Rattle.word_model.specs.Inside.Sound.{IsStep, IsNamed, IsSound, behind, behind_all, AreSound}
 use Rattle.cofactors.specs.Rows.{IsRow}
 use Rattle.cofactors.proofs.Lists.{drop_step, item-append}
 

@@ -7,7 +7,7 @@ use Rattle.word_model.specs.Reduction.{quotient, multiple, is_within}
 use Rattle.word_model.specs.Words.{Algebra}
 use Rattle.word_model.specs.Finished.{FinishedList}
 use Rattle.word_model.specs.Cofactors.{Row}
-use Rattle.cofactors.specs.Sound.{IsStep}
+use Rattle.word_model.specs.Inside.Sound.{IsStep}
 
 -- a row over g generators, of polynomials of the algebra
 pub record IsRow (A : Algebra) (g : ℕ) (row : Row) : Type 0 where

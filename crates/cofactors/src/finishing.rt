@@ -4,7 +4,7 @@ ghost use Rattle.std.specs.Prelude.{◌≡◌, ℕ, ◌≤◌, true, false, leng
 ghost use Rattle.monomials.specs.Polynomials.{Each};
 ghost use Rattle.word_model.specs.Cofactors.{row_at, less_steps, finished_rows, steps_reach, tails_reach};
 ghost use Rattle.gproduct.specs.Seats.{Keeps};
-ghost use Rattle.cofactors.specs.Sound.{IsStep};
+ghost use Rattle.word_model.specs.Inside.Sound.{IsStep};
 ghost use Rattle.cofactors.specs.Rows.{IsRow, AreTails};
 
 use crate::multiples::subtract_steps;

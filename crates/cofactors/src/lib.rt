@@ -1,8 +1,8 @@
-//! Rows of cofactors: how the finished elements of a left run are meant to be left combinations of
-//! its generators, and a check of such a row.
+//! Rows of cofactors: how the finished elements of a left run are left combinations of its
+//! generators, and a check of such a row.
 #![tactic(auto)]
 
-ghost use Rattle.std.specs.Prelude.{◌≡◌, ◌↔◌, ℕ, ◌≤◌, true, false, length, IsTrue, IfOk, OnOk, Err, Some, None};
+ghost use Rattle.std.specs.Prelude.{◌≡◌, ◌↔◌, ℕ, ◌≤◌, true, false, length, map, IsTrue, IfOk, OnOk, Err, Some, None};
 ghost use Rattle.monomials.specs.Polynomials.{Each, IsPolynomial};
 ghost use Rattle.word_model.specs.Cofactors.{cofactor_rows, row_value, value_reaches};
 ghost use Rattle.word_model.specs.Finished.{finished};
@@ -27,7 +27,8 @@ mod pushing;
 #[cfg(test)]
 mod tests;
 
-/// The rows of the finished list of a left run over these generators, one for each finished element.
+/// The rows of the finished list of a left run over these generators, one for each finished element,
+/// which is the value of its row.
 /// `DegreeOver` comes exactly where a product of a degree above 4095 is needed: of a monomial with an
 /// entry, for the row of any element of the basis or of the list, or of a finished row's entry with
 /// its generator.
@@ -45,6 +46,7 @@ pub fn rows<L: Ledger>(
     requires finished { journal.now.outcome ≡ Ended }
     requires list { finished seat.old.algebra journal.now.basis ≡ Some list.now }
     ensures value { IfOk result (λ rows. cofactor_rows seat.old.algebra gens.now journal.now list.now ≡ Some rows.items) }
+    ensures values { IfOk result (λ rows. map (λ row. row_value seat.old.algebra row gens.now) rows.items ≡ list.now.list) }
     ensures over { result ≡ Err ProductFault.DegreeOver →
         cofactor_rows seat.old.algebra gens.now journal.now list.now ≡ None }
     ensures sorted { IfOk result (λ rows.

@@ -9,7 +9,7 @@ ghost use Rattle.word_model.specs.Cofactors.{unit_row, start_row, less_steps, ro
 ghost use Rattle.word_model.specs.declared.records.Job.TheVariants.{Pair};
 ghost use Rattle.word_model.specs.declared.records.Mode.TheVariants.{Left};
 ghost use Rattle.gproduct.specs.Seats.{Keeps};
-ghost use Rattle.cofactors.specs.Sound.{IsStep, IsNamed, IsSound, AreSound, behind_all};
+ghost use Rattle.word_model.specs.Inside.Sound.{IsStep, IsNamed, IsSound, AreSound, behind_all};
 ghost use Rattle.cofactors.specs.Rows.{IsRow};
 
 use crate::multiples::{multiple, row_at, subtract, subtract_steps};

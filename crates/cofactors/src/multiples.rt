@@ -7,7 +7,7 @@ ghost use Rattle.word_model.specs.Products.{in_reach};
 ghost use Rattle.word_model.specs.Reduction.{multiple};
 ghost use Rattle.word_model.specs.Cofactors.{row_at, row_sub, row_multiple, less_steps, multiple_reaches, steps_reach};
 ghost use Rattle.gproduct.specs.Seats.{Keeps};
-ghost use Rattle.cofactors.specs.Sound.{IsStep};
+ghost use Rattle.word_model.specs.Inside.Sound.{IsStep};
 ghost use Rattle.cofactors.specs.Rows.{IsRow, IsFactor};
 
 use crate::pushing::push;

@@ -1,16 +1,18 @@
-use Rattle.std.proofs.Common.{◌≡◌, [], true, false, length, refl, sym, ap, ◌∙◌, subst, arith}
+use Rattle.std.proofs.Common.{◌≡◌, ℕ, List, [], true, false, Some, length, map, refl, sym, ap, ◌∙◌, subst, arith}
 use Rattle.std.proofs.lemmas.Result.{err_from_is_err_and}
-use Rattle.monomials.specs.Polynomials.{Each, IsPolynomial}
+use Rattle.monomials.specs.Polynomials.{Polynomial, Each, IsPolynomial}
 use Rattle.monomials.proofs.Keys.{Each-weaker}
 use Rattle.word_model.specs.Words.{Algebra}
 use Rattle.word_model.specs.Conditions.{IsGAlgebra}
-use Rattle.word_model.specs.Machine.{IsElement, Journal}
-use Rattle.word_model.specs.Cofactors.{Row, rows_after, finished_rows, entries_reach, values_reach}
+use Rattle.word_model.specs.Machine.{IsElement, Journal, machine}
+use Rattle.word_model.specs.Finished.{FinishedList, finished}
+use Rattle.word_model.specs.Cofactors.{Row, row_value, cofactor_rows, rows_after, finished_rows, entries_reach, values_reach}
 use Rattle.word_model.specs.declared.records.Mode.TheVariants.{Left}
-use Rattle.cofactors.specs.Sound.{AreSound, behind_all, IsJournal}
+use Rattle.word_model.proofs.FinishedRows.{finished_values}
+use Rattle.word_model.specs.Inside.Sound.{AreSound, behind_all, IsJournal}
 use Rattle.cofactors.specs.Rows.{IsRow, AreTails}
 use Rattle.cofactors.proofs.Lists.{met_fault}
-use Rattle.cofactors.proofs.Journals.{journal-is, journal-elements}
+use Rattle.word_model.proofs.Journals.{journal-is, journal-elements}
 use Rattle.cofactors.proofs.Finals.{finished-tails}
 use Rattle.cofactors.proofs.RowLaws.{length-all_rows, cofactor_rows-is, cofactor_rows-entries, cofactor_rows-tails, cofactor_rows-values}
 use Rattle.cofactors.proofs.rows.Goals as goal
@@ -144,6 +146,21 @@ returns-clause-value g c =
     (λ i. entries_reach (sym (basis_is g at.After-deref-2) i) (made_is g at.After-deref-3 i) (sym (entries_are g at.After-deref-2) i)) ∙ c.in_ok-made.ensures.within in
     cofactor_rows-is A c.args.gens.now J F R c.in_ok-rows.rows.items (made_of_journal g at.After-deref-3) entries c.in_ok-rows.ensures.within rows_are
     (ap (λ rows. values_reach rows c.args.gens.now) (sym c.deref-4.ensures.value) ∙ sym c.values_reach.ensures ∙ on)
+
+-- each finished element is the value of its row
+pub returns-clause-values : goal.returns-clause-values
+returns-clause-values g c =
+    let A = c.args.seat.now.algebra in
+    let gens = c.args.gens.now in
+    let F = c.args.list.now in
+    by A (accepted g (goal.at.returns-clause-values g c).After-deref-2) gens c.requires.generators c.args.journal.now c.requires.left_run F c.requires.list
+    c.in_ok-rows.rows.items (returns-clause-value g c)
+  where
+    by : (A : Algebra) → IsGAlgebra A → (gens : List Polynomial) → Each (IsPolynomial A.p A.order) gens → (J : Journal) → (budget : ℕ) × (J ≡ machine A gens Left budget)
+        → (F : FinishedList) → finished A J.basis ≡ Some F → (rows : List Row) → cofactor_rows A gens J F ≡ Some rows → map (λ row. row_value A row gens) rows ≡ F.list
+    by A ok gens sorted J run F listed rows computed =
+        finished_values A ok gens sorted run.0 F (ap (λ (J : Journal). finished A J.basis) (sym run.1) ∙ listed) rows
+        (ap (λ (J : Journal). cofactor_rows A gens J F) (sym run.1) ∙ computed)
 
 -- the rows that are handed out
 are_rows : (g : given.Over) (c : After-deref-4 g) → Each (IsRow c.args.seat.now.algebra (length c.args.gens.now)) c.in_ok-rows.rows.items

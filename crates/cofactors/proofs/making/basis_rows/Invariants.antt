@@ -3,7 +3,7 @@ use Rattle.monomials.specs.Polynomials.{Each}
 use Rattle.word_model.specs.Cofactors.{rows_after, entries_reach}
 use Rattle.word_model.specs.declared.records.Mode.TheVariants.{Left}
 use Rattle.gproduct.specs.Seats.{Keeps}
-use Rattle.cofactors.specs.Sound.{AreSound, behind_all}
+use Rattle.word_model.specs.Inside.Sound.{AreSound, behind_all}
 use Rattle.cofactors.specs.Rows.{IsRow}
 use Rattle.cofactors.proofs.making.basis_rows.Given as goal
 

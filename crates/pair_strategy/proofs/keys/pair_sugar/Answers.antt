@@ -5,6 +5,18 @@ use Rattle.word_model.specs.Reduction.{element}
 use Rattle.word_model.proofs.Sugars.{degree-lcm, sugar_at-most}
 use Rattle.pair_strategy.proofs.keys.pair_sugar.Goals as goal
 
+pub overflow_add-result : goal.overflow_add-result
+overflow_add-result g c =
+    omega (
+      arith,
+      c.degree.ensures.small,
+      c.max.ensures,
+      c.excess-first.ensures.sum,
+      c.excess-second.ensures.sum,
+      sugar_at-most 33554432 c.args.sugars.now c.args.i c.requires.small,
+      sugar_at-most 33554432 c.args.sugars.now c.args.j c.requires.small,
+    )
+
 pub returns-clause-most : goal.returns-clause-most
 returns-clause-most g c = λ b few.
     let G = g.B.Elements.elements c.args.basis.now in

@@ -1,9 +1,17 @@
-use Rattle.std.proofs.Common.{◌≡◌, ◌≤◌, ◌∙◌, sym, ap, subst, arith, length, Some, None}
+use Rattle.std.proofs.Common.{◌≡◌, ℕ, List, ◌≤◌, ◌∙◌, sym, ap, subst, arith, length, Some, None}
 use Rattle.std.proofs.lemmas.Result.{err_from_is_err_and}
 use Rattle.std.proofs.lemmas.List.{length-map}
-use Rattle.monomials.specs.Polynomials.{Each}
+use Rattle.monomials.specs.Polynomials.{Polynomial, Each, IsPolynomial}
+use Rattle.monomials.specs.WellFounded.{IsWellFounded}
+use Rattle.word_model.specs.Words.{Algebra}
+use Rattle.word_model.specs.Conditions.{IsGAlgebra}
 use Rattle.word_model.specs.Finished.{finished, Final, FinishedList}
-use Rattle.word_model.specs.Machine.{IsElement, Journal}
+use Rattle.word_model.specs.Machine.{IsElement, Journal, machine}
+use Rattle.word_model.specs.Ideals.{IsReducedBasis}
+use Rattle.word_model.specs.Bases.{InIdeal}
+use Rattle.word_model.specs.declared.records.Mode.{Mode}
+use Rattle.word_model.specs.declared.records.Outcome.TheVariants.{Finished}
+use Rattle.word_model.proofs.RunIdeals.{finished_reduced}
 use Rattle.word_model.proofs.Letters.{Each-map}
 use Rattle.finish.proofs.Finishing.{met_fault, nonzero_in, kept-sorted, length-kept, finished-is, finished-none}
 use Rattle.finish.proofs.reduced.Goals as goal
@@ -51,3 +59,16 @@ pub returns-clause-one_tail_each : goal.returns-clause-one_tail_each
 returns-clause-one_tail_each g c =
     subst (λ (f : FinishedList). length f.tails ≡ length f.list) (sym c.in_ok-split.ensures)
     (length-map c.in_ok-finals.finals.items (λ (x : Final). x.tail) ∙ sym (length-map c.in_ok-finals.finals.items (λ (x : Final). x.polynomial)))
+
+pub returns-clause-reduced : goal.returns-clause-reduced
+returns-clause-reduced g c =
+    let A = c.args.seat.now.algebra in
+    let alg = c.algebra.result.now in
+    let ok : IsGAlgebra A = subst IsGAlgebra c.algebra.ensures c.n-n.ensures.accepted in
+    let well : IsWellFounded A.order = subst IsWellFounded (c.order.ensures ∙ ap (λ (A : Algebra). A.order) c.algebra.ensures) c.order_is_well_founded.ensures.reached in
+    λ gens mode budget sorted run. by A ok well gens sorted mode budget c.args.journal.now run c.requires.finished c.in_ok-split.field-0 (returns-clause-list g c)
+  where
+    by : (A : Algebra) → IsGAlgebra A → IsWellFounded A.order → (gens : List Polynomial) → Each (IsPolynomial A.p A.order) gens → (mode : Mode) (budget : ℕ) (J : Journal)
+        → J ≡ machine A gens mode budget → J.outcome ≡ Finished → (F : FinishedList) → finished A J.basis ≡ Some F → IsReducedBasis A (InIdeal A mode gens) F.list
+    by A ok well gens sorted mode budget J run end F listed =
+        finished_reduced A ok gens sorted mode budget (ap (λ (J : Journal). J.outcome) (sym run) ∙ end) well F (ap (λ (J : Journal). finished A J.basis) (sym run) ∙ listed)

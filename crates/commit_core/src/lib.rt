@@ -10,7 +10,7 @@ use algebra::Algebra;
 use gpoly::GPoly;
 use gproduct::{Steps, Table, TableSeat};
 pub use lead::{Committed, Lead};
-use run_records::{Engine, Journal, Mode};
+use run_records::{Engine, Journal, Mode, runs_have_laws};
 use std::alloc::{AllocError, Global};
 use std::marker::Brand;
 use std::sync::ledger::{Blank, Ledger};
@@ -43,6 +43,7 @@ impl Engine for OneWorker {
         mode: Mode,
         budget: u32,
     ) -> Result<Journal, AllocError> {
+        runs_have_laws(alg, gens);
         let table = Table::new(alloc, alg)?;
         let mut seat = table.seat(alloc)?;
         let lead = Lead::new(alloc, alg, gens, mode, budget)?;

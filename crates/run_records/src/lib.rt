@@ -4,16 +4,19 @@
 ghost use Rattle.std.specs.Prelude.{◌≡◌, ◌≤◌, IfOk, List, length};
 ghost use Rattle.monomials.specs.Polynomials.{Polynomial, Each, IsPolynomial};
 ghost use Rattle.word_model.specs.Reduction.{element};
+ghost use Rattle.word_model.specs.Bases.{RunLaws};
 ghost use Rattle.word_model.specs.Machine.{machine};
 
 use algebra::Algebra;
 use gpoly::GPoly;
 use std::alloc::{AllocError, Global};
 use std::marker::Model;
+pub use bases::runs_have_laws;
 pub use word_model::records::{Entry, Job, Mode, Outcome, Trace, TraceStep};
 
 /// A run of the machine: what it did with its jobs in order, the basis that it made, and how it
-/// ended. That the basis of a `Finished` run is a Gröbner basis is not proved.
+/// ended. The basis of a `Finished` run is a Gröbner basis of the ideal that the generators generate,
+/// by the clause `run` of `Engine::basis`.
 #[derive(Debug, Drop)]
 pub struct Journal {
     pub entries: Vec<Entry>,
@@ -136,8 +139,10 @@ pub trait Engine {
         requires few { length gens.now ≤ 4096 }
         requires some { 1 ≤ budget }
         ensures value { IfOk result (λ j. j ≡ machine alg.now gens.now mode budget) }
+        ensures run { IfOk result (λ j. RunLaws alg.now mode gens.now j) }
         ensures ready { can_run self.new };
 }
 
+mod bases;
 #[cfg(test)]
 mod tests;

@@ -25,7 +25,7 @@ use std::sync::ledger::Ledger;
 /// The most entries that a run may have.
 const BUDGET: u32 = 100000;
 
-/// The reply to a request for the left Gröbner basis of the products of these letters.
+/// The reply to a request for the reduced left Gröbner basis of the products of these letters.
 pub fn reply_to_basis<L: Ledger>(
     alloc: Global,
     seat: &mut TableSeat,

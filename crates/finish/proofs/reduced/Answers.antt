@@ -63,9 +63,8 @@ returns-clause-one_tail_each g c =
 pub returns-clause-reduced : goal.returns-clause-reduced
 returns-clause-reduced g c =
     let A = c.args.seat.now.algebra in
-    let alg = c.algebra.result.now in
-    let ok : IsGAlgebra A = subst IsGAlgebra c.algebra.ensures c.n-n.ensures.accepted in
-    let well : IsWellFounded A.order = subst IsWellFounded (c.order.ensures ∙ ap (λ (A : Algebra). A.order) c.algebra.ensures) c.order_is_well_founded.ensures.reached in
+    let ok : IsGAlgebra A = subst IsGAlgebra c.algebra-alg.ensures c.n-n.ensures.accepted in
+    let well : IsWellFounded A.order = subst IsWellFounded (c.order.ensures ∙ ap (λ (A : Algebra). A.order) c.algebra-alg.ensures) c.order_is_well_founded.ensures.reached in
     λ gens mode budget sorted run. by A ok well gens sorted mode budget c.args.journal.now run c.requires.finished c.in_ok-split.field-0 (returns-clause-list g c)
   where
     by : (A : Algebra) → IsGAlgebra A → IsWellFounded A.order → (gens : List Polynomial) → Each (IsPolynomial A.p A.order) gens → (mode : Mode) (budget : ℕ) (J : Journal)

@@ -27,15 +27,14 @@ module _ {K : Type 0} (cmp : K → K → Ordering) (p : ℕ) where
     | Less ↦ t ∷ insert_term c k f
   ]
 
-  -- the polynomial with these terms, given in any order and with any repetition
-  abbrev pub from_terms : List (ℕ × K) → List (ℕ × K)
-  from_terms [] = []
-  from_terms (t ∷ f) = insert_term t.0 t.1 (from_terms f)
-
-  -- the sum of two polynomials
+  -- the sum of two polynomials: each term of the first is added to the second
   abbrev pub poly_add : List (ℕ × K) → List (ℕ × K) → List (ℕ × K)
   poly_add [] g = g
   poly_add (t ∷ f) g = insert_term t.0 t.1 (poly_add f g)
+
+  -- the polynomial with these terms, given in any order and with any repetition: their sum
+  abbrev pub from_terms : List (ℕ × K) → List (ℕ × K)
+  from_terms f = poly_add f []
 
 -- the multiple c f
 abbrev pub poly_scale : {K : Type 0} → ℕ → ℕ → List (ℕ × K) → List (ℕ × K)

@@ -1,9 +1,14 @@
 -- Steps and S-polynomials, as the program makes them; and reductions, a step at a time.
-use Rattle.std.proofs.Common.{◌≡◌, ℕ, ◌+◌, true, false, List, [], ◌∷◌, ◌++◌, length, Some, if◌then◌else◌, sym, ap, ◌∙◌, append_assoc, append-nil, length-append, arith}
+use Rattle.std.proofs.Common.{◌≡◌, ℕ, zero, suc, ◌+◌, ◌-◌, ◌*◌, ◌%◌, ◌<◌, true, false, List, [], ◌∷◌, ◌++◌, length, Some, if◌then◌else◌, sym, ap, ◌∙◌, append_assoc, append-nil, length-append, arith}
 use Rattle.monomials.specs.Monomials.{Monomial, minus, lcm}
-use Rattle.monomials.specs.Orders.{order_cmp}
+use Rattle.monomials.specs.Orders.{RowOrder, order_cmp}
 use Rattle.monomials.specs.Polynomials.{Polynomial, IsPolynomial, poly_scale, poly_sub}
 use Rattle.monomials.specs.Leading.{leading_monomial, leading_coefficient}
+use Rattle.monomials.proofs.Modulo.{Same, same_refl, same_mul, same_mul_right, same_rest, same_cancel, same_none}
+use Rattle.monomials.proofs.Weights.{weigh, weigh-poly_scale}
+use Rattle.monomials.proofs.Canonical.{same_poly}
+use Rattle.monomials.proofs.OrderLaws.{order_cmp_total, order_cmp_tied}
+use Rattle.monomials.proofs.Operations.{IsPolynomial-poly_scale}
 use Rattle.word_model.specs.Words.{Algebra}
 use Rattle.word_model.specs.Conditions.{IsGAlgebra}
 use Rattle.word_model.specs.Reduction.{element, quotient, multiple, is_within, step_by, less_step, Next, Ends, Undefined, Goes, next_step, Reduced, after_step}
@@ -51,6 +56,37 @@ module _ (A : Algebra) (ok : IsGAlgebra A) where
       let k_is : k ≡ k' = number ∙ (λ j. quotient A.p (leading_coefficient (first_is j)) (leading_coefficient (second_is j))) in
       less_multiple first g (minus l (leading_monomial g)) k k' second (ap length (sym is_b) ∙ vars) g_is k_is second_is
       ∙ ap (λ f. poly_sub (order_cmp A.order.rows) A.p f (multiple A k' (minus l (leading_monomial g)) g)) first_is
+
+-- ---- minus a multiple
+
+-- minus c, modulo p
+minus_number : (p c w : ℕ) → 0 < p → c < p → Same p (((p - c) % p) * w) ((p - 1) * (c * w))
+minus_number zero c w pos less = absurd (omega arith)
+minus_number (suc q) c w pos less =
+    let d : ℕ = suc q - c in
+    let whole : c + d ≡ suc q = omega arith in
+    let both : c * w + d * w ≡ w + (suc q - 1) * w = minus_both q c d w whole in
+    same_mul_right (suc q) w _ _ (same_rest (suc q) d)
+    ∙ same_cancel (suc q) (c * w) _ _ pos
+    (same_refl (suc q) _ _ both ∙ same_none (suc q) w pos ∙ sym (same_none (suc q) (c * w) pos))
+  where
+    minus_both : (q c d w : ℕ) → c + d ≡ suc q → c * w + d * w ≡ w + (suc q - 1) * w
+    minus_both q c d w e =
+        let less : suc q - 1 ≡ q = omega arith in
+        let sum : c * w + d * w ≡ w + q * w = omega (arith, ap (λ x. x * w) e) in
+        sum ∙ ap (λ n. w + n * w) (sym less)
+
+-- the multiple by minus c is minus the multiple by c
+pub minus_multiple : (p c : ℕ) (order : RowOrder) (g : Polynomial) → 0 < p → c < p → IsPolynomial p order g
+    → poly_scale p ((p - c) % p) g ≡ poly_scale p (p - 1) (poly_scale p c g)
+minus_multiple p c order g pos less g_is =
+    let once : IsPolynomial p order (poly_scale p c g) = IsPolynomial-poly_scale p order pos c g g_is in
+    same_poly (order_cmp order.rows) (order_cmp_total order.rows) (order_cmp_tied order.rows) p _ _
+    (IsPolynomial-poly_scale p order pos ((p - c) % p) g g_is).canonical (IsPolynomial-poly_scale p order pos (p - 1) (poly_scale p c g) once).canonical
+    (λ φ.
+    weigh-poly_scale p φ ((p - c) % p) g
+    ∙ minus_number p c (weigh φ g) pos less
+    ∙ sym (weigh-poly_scale p φ (p - 1) (poly_scale p c g) ∙ same_mul p (p - 1) _ _ (weigh-poly_scale p φ c g)))
 
 -- ---- reductions, a step at a time
 

@@ -3,9 +3,8 @@
 
 ghost use Rattle.std.specs.Prelude.{◌≡◌, ◌≤◌, length};
 ghost use Rattle.monomials.specs.Polynomials.{Each, HasVars};
-ghost use Rattle.word_model.specs.Reduction.{first_divisor, lead_divides};
+ghost use Rattle.word_model.specs.Reduction.{first_divisor};
 
-use gpoly::GPoly;
 use monomials::Expo;
 use run_records::Elements;
 
@@ -27,22 +26,11 @@ pub fn first_divisor<B: Elements>(basis: &B, mono: &Expo) -> Option<u32>
     ensures { result ≡ first_divisor (B.elements basis.now) mono.now }
 {
     for k in 1..=basis.count() as u32 {
-        if lead_divides(basis.at(k), mono) {
+        if basis.at(k).lead_divides(mono) {
             return Some(k);
         }
     }
     None
-}
-
-// Whether an element is nonzero, and its leading monomial divides the other.
-fn lead_divides(element: &GPoly, mono: &Expo) -> bool
-    requires { HasVars (length mono.now) element.now }
-    ensures { result ≡ lead_divides element.now mono.now }
-{
-    match element.leading() {
-        Some(term) => term.mono.divides(mono),
-        None => false,
-    }
 }
 
 #[cfg(test)]

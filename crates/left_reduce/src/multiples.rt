@@ -1,18 +1,15 @@
-//! Multiples by a monomial, and leading terms.
+//! Multiples by a monomial.
 
-ghost use Rattle.std.specs.Prelude.{◌≡◌, ◌≢◌, ◌<◌, ◌≤◌, true, false, IfOk, OnOk, Err, [], length};
-ghost use Rattle.monomials.specs.Monomials.{degree};
+ghost use Rattle.std.specs.Prelude.{◌≡◌, ◌≢◌, true, false, IfOk, OnOk, Err, [], length};
 ghost use Rattle.monomials.specs.Polynomials.{IsPolynomial};
-ghost use Rattle.monomials.specs.Leading.{leading_monomial, leading_coefficient};
-ghost use Rattle.word_model.specs.Reduction.{multiple, is_within, quotient};
+ghost use Rattle.word_model.specs.Reduction.{multiple, is_within};
 ghost use Rattle.gproduct.specs.Seats.{Keeps};
 ghost use Rattle.gproduct.specs.Counting.{Counts};
 
 use algebra::ProductFault;
-use gpoly::{GPoly, Term};
+use gpoly::GPoly;
 use gproduct::{Steps, TableSeat, term_times};
 use monomials::Expo;
-use prime_field::Field;
 use std::alloc::Global;
 use std::sync::ledger::Ledger;
 
@@ -39,25 +36,4 @@ pub(crate) fn multiple<L: Ledger>(
 {
     let _n = seat.algebra().n();
     term_times(alloc, seat, 1, mono, g, steps)
-}
-
-// The leading term of a nonzero polynomial.
-pub(crate) fn lead(f: &GPoly) -> &Term
-    requires { f.now ≢ [] }
-    ensures mono { result.now.mono ≡ leading_monomial f.now }
-    ensures coef { result.now.coef ≡ leading_coefficient f.now }
-    ensures small { degree result.now.mono ≤ 4095 }
-{
-    &f.terms()[0]
-}
-
-// The number a / b.
-pub(crate) fn quotient(field: Field, a: u32, b: u32) -> u32
-    requires a_in_range { a < field }
-    requires b_in_range { b < field }
-    requires nonzero { b ≢ 0 }
-    ensures value { result ≡ quotient field a b }
-    ensures in_range { result < field }
-{
-    field.mul(a, field.inv(b))
 }

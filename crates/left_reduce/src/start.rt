@@ -7,7 +7,7 @@ ghost use Rattle.gproduct.specs.Seats.{Keeps};
 ghost use Rattle.left_reduce.specs.Reductions.{start_count};
 ghost use Rattle.left_reduce.specs.Steps.{both_within};
 
-use crate::multiples::{lead, multiple, quotient};
+use crate::multiples::multiple;
 use algebra::ProductFault;
 use gpoly::GPoly;
 use gproduct::{Steps, TableSeat, right_times};
@@ -69,11 +69,10 @@ fn s_polynomial<L: Ledger>(
     let alg = seat.algebra();
     let _n = alg.n();
     let field = alg.field();
-    let (f_lead, g_lead) = (lead(f), lead(g));
+    let (f_lead, g_lead) = (f.lead(), g.lead());
     let reached = f_lead.mono.lcm(&g_lead.mono);
     let first = multiple(alloc, seat, &reached.minus(&f_lead.mono), f, steps)?;
     let second = multiple(alloc, seat, &reached.minus(&g_lead.mono), g, steps)?;
-    let k = quotient(field, lead(&first).coef, lead(&second).coef);
-    let cancelling = second.scale(alloc, field, k)?;
-    Ok(first.sub(alloc, field, alg.order(), &cancelling)?)
+    let k = field.div(first.lead().coef, second.lead().coef);
+    Ok(first.add_multiple(alloc, field, alg.order(), field.neg(k), &second)?)
 }

@@ -6,7 +6,7 @@ ghost use Rattle.word_model.specs.Reduction.{first_divisor, next_step};
 ghost use Rattle.gproduct.specs.Seats.{Keeps};
 ghost use Rattle.left_reduce.specs.Steps.{target_of, next_of, products_of, after_steps, reduction_by};
 
-use crate::multiples::{lead, multiple, quotient};
+use crate::multiples::multiple;
 use crate::targets::{Aim, Target};
 use algebra::ProductFault;
 use gpoly::GPoly;
@@ -110,15 +110,14 @@ fn next_step<B: Elements, L: Ledger>(
     let _n = alg.n();
     let field = alg.field();
     let element = basis.at(target.index);
-    let mono = target.term.mono.minus(&lead(element).mono);
+    let mono = target.term.mono.minus(&element.lead().mono);
     let product = match multiple(alloc, seat, &mono, element, steps) {
         Ok(product) => product,
         Err(ProductFault::DegreeOver) => return Ok(Next::Over),
         Err(ProductFault::Memory) => return Err(AllocError),
     };
-    let coef = quotient(field, target.term.coef, lead(&product).coef);
-    let cancelling = product.scale(alloc, field, coef)?;
-    let left = h.sub(alloc, field, alg.order(), &cancelling)?;
+    let coef = field.div(target.term.coef, product.lead().coef);
+    let left = h.add_multiple(alloc, field, alg.order(), field.neg(coef), &product)?;
     let step = TraceStep {
         coef,
         mono,

@@ -159,14 +159,14 @@ fn starts(rt: HostRuntime) -> Result<(), Fail> {
     let alloc = rt.alloc();
     let alg = weyl(alloc)?;
     let f = poly(alloc, alg.field(), alg.order(), "1:020")?;
-    let g = poly(alloc, alg.field(), alg.order(), "1:110")?;
+    let g = poly(alloc, alg.field(), alg.order(), "2:110")?;
     let basis = two(alloc, &alg, f, g)?;
     let seed = start_text(alloc, &alg, &basis, &Job::Seed { s: 2 })?;
-    assert_eq!(rt; seed.as_str(), "1:110 ");
+    assert_eq!(rt; seed.as_str(), "2:110 ");
     let pair = start_text(alloc, &alg, &basis, &Job::Pair { i: 1, j: 2 })?;
     assert_eq!(rt; pair.as_str(), "6:010 ");
     let right = start_text(alloc, &alg, &basis, &Job::Right { i: 2, v: 1 })?;
-    assert_eq!(rt; right.as_str(), "1:210 1:100 ");
+    assert_eq!(rt; right.as_str(), "2:210 2:100 ");
     Ok(())
 }
 

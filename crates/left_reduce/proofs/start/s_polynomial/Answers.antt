@@ -1,14 +1,13 @@
-use Rattle.std.proofs.Common.{◌≡◌, ℕ, length, sym, ap, ◌∙◌, subst, subst₂}
+use Rattle.std.proofs.Common.{◌≡◌, ℕ, ◌-◌, ◌%◌, ◌<◌, arith, length, sym, ap, ◌∙◌, subst, subst₂}
 use Rattle.monomials.specs.Monomials.{minus, lcm, divides}
 use Rattle.monomials.specs.Orders.{RowOrder, order_cmp}
-use Rattle.monomials.specs.Polynomials.{HasNumbers, IsPolynomial, poly_scale, poly_sub}
+use Rattle.monomials.specs.Polynomials.{IsPolynomial, poly_add, poly_scale}
 use Rattle.monomials.specs.Leading.{leading_monomial, leading_coefficient}
-use Rattle.monomials.proofs.Operations.{HasNumbers-polynomial}
 use Rattle.word_model.specs.Words.{Algebra}
 use Rattle.word_model.specs.Conditions.{IsGAlgebra}
 use Rattle.word_model.specs.Reduction.{quotient, multiple}
 use Rattle.left_reduce.proofs.Factors.{Reaches, reaches}
-use Rattle.left_reduce.proofs.Made.{s_polynomial-made}
+use Rattle.left_reduce.proofs.Made.{s_polynomial-made, minus_multiple}
 use Rattle.left_reduce.proofs.start.s_polynomial.Given as given
 use Rattle.left_reduce.proofs.start.s_polynomial.Goals as goal
 use Rattle.left_reduce.proofs.start.s_polynomial.Goals.{After-lcm-reached, After-minus, After-minus-2, In_ok-second}
@@ -68,18 +67,12 @@ second_sorted o c = subst (λ (a : Algebra). IsPolynomial a.p a.order c.in_ok-se
 field_is : (o : given.Over) (c : In_ok-second o) → c.field-field.result ≡ c.args.seat.now.algebra.p
 field_is o c = c.field-field.ensures ∙ ap (λ (a : Algebra). a.p) c.algebra-alg.ensures
 
-pub scale-requires-clause-numbers : goal.scale-requires-clause-numbers
-scale-requires-clause-numbers o c =
-    let at = (goal.at.scale-requires-clause-numbers o c).In_ok-second in
-    let A : Algebra = c.args.seat.now.algebra in
-    subst (λ p. HasNumbers p c.in_ok-second.second) (sym (field_is o at)) (HasNumbers-polynomial A.p A.order c.in_ok-second.second (second_sorted o at))
-
-pub sub-requires-clause-other_sorted : goal.sub-requires-clause-other_sorted
-sub-requires-clause-other_sorted o c =
-    let at = (goal.at.sub-requires-clause-other_sorted o c).In_ok-second in
+pub add_multiple-requires-clause-other_sorted : goal.add_multiple-requires-clause-other_sorted
+add_multiple-requires-clause-other_sorted o c =
+    let at = (goal.at.add_multiple-requires-clause-other_sorted o c).In_ok-second in
     let P : ℕ → RowOrder → Type 0 = λ p order. IsPolynomial p order c.in_ok-second.second in
     let order_is : c.order.result.now ≡ c.args.seat.now.algebra.order = c.order.ensures ∙ ap (λ (a : Algebra). a.order) c.algebra-alg.ensures in
-    c.in_ok-cancelling.ensures.sorted c.order.result.now (subst₂ P (sym (field_is o at)) (sym order_is) (second_sorted o at))
+    subst₂ P (sym (field_is o at)) (sym order_is) (second_sorted o at)
 
 pub returns-clause-value : goal.returns-clause-value
 returns-clause-value o c =
@@ -88,14 +81,16 @@ returns-clause-value o c =
     let ok : IsGAlgebra A = subst IsGAlgebra c.algebra-alg.ensures c.n-n.ensures.accepted in
     let first = c.in_ok-first.first in
     let second = c.in_ok-second.second in
-    let k = c.quotient-k.result in
+    let k = c.div-k.result in
     let p_is : c.field-field.result ≡ A.p = field_is o at.In_ok-second in
     let order_is : c.order.result.now ≡ A.order = c.order.ensures ∙ ap (λ (a : Algebra). a.order) c.algebra-alg.ensures in
     let number : k ≡ quotient A.p (leading_coefficient first) (leading_coefficient second) =
-    c.quotient-k.ensures.value ∙ (λ j. quotient (p_is j) (c.lead.ensures.coef j) (c.lead-2.ensures.coef j)) in
-    let scaled : c.in_ok-cancelling.cancelling ≡ poly_scale A.p k second = c.in_ok-cancelling.ensures.value ∙ ap (λ p. poly_scale p k second) p_is in
-    c.in_ok-sub.ensures.value
-    ∙ (λ j. poly_sub (order_cmp (order_is j).rows) (p_is j) first (scaled j))
+    c.div-k.ensures.value ∙ (λ j. quotient (p_is j) (c.lead.ensures.coef j) (c.lead-2.ensures.coef j)) in
+    let less : k < A.p = subst (λ p. k < p) p_is c.div-k.ensures.in_range in
+    let negated : c.neg.result ≡ (A.p - k) % A.p = c.neg.ensures.value ∙ ap (λ p. (p - k) % p) p_is in
+    c.in_ok-add_multiple.ensures.value
+    ∙ (λ j. poly_add (order_cmp (order_is j).rows) (p_is j) first (poly_scale (p_is j) (negated j) second))
+    ∙ ap (poly_add (order_cmp A.order.rows) A.p first) (minus_multiple A.p k A.order second (omega (arith, less)) less (second_sorted o at.In_ok-second))
     ∙ s_polynomial-made A ok c.args.f.now c.args.g.now c.minus.result c.minus-2.result first second k c.requires.g_sorted
     (ap length (g_mono_is o at.After-minus-2) ∙ (reach o at.After-lcm-reached).g_quotient) (f_mono_is o at.After-minus) (g_mono_is o at.After-minus-2)
     c.in_ok-first.ensures.value (second_is o at.In_ok-second) number

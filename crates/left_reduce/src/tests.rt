@@ -9,7 +9,7 @@ ghost use Rattle.word_model.specs.Jobs.{IsJob, NamesNonzero};
 
 use super::*;
 use algebra::{Algebra, ProductFault, Relations};
-use gpoly::Term;
+use gpoly::{GPoly, Term};
 use gproduct::{Steps, Table, TableSeat};
 use monomials::{Block, Order};
 use prime_field::Field;

@@ -8,7 +8,7 @@ ghost use Rattle.word_model.specs.Machine.{IsElement};
 ghost use Rattle.word_model.specs.declared.records.Outcome.TheVariants.{Finished as Ended};
 
 use crate::reduced;
-use algebra::{Algebra, Relations};
+use algebra::{Algebra, ProductFault, Relations};
 use gpoly::{GPoly, Term};
 use gproduct::{Steps, Table};
 use monomials::{Block, Expo, Order};
@@ -154,7 +154,7 @@ fn finished_list(alloc: Global, algebra: &Algebra, basis: Vec<GPoly>) -> Result<
         basis,
         outcome: Outcome::Finished,
     };
-    counted::<Brand>(alloc, algebra, &journal, Blank::new(1))
+    Ok(counted::<Brand>(alloc, algebra, &journal, Blank::new(1))?)
 }
 
 // The same, with a counter on the blank.
@@ -163,7 +163,7 @@ fn counted<L: Ledger>(
     algebra: &Algebra,
     journal: &Journal,
     blank: Blank,
-) -> Result<Finished, Fail>
+) -> Result<Finished, ProductFault>
     requires finished { journal.now.outcome ≡ Ended }
     requires elements { Each (IsElement algebra.now) journal.now.basis }
     requires few { length journal.now.basis ≤ 2048 }
@@ -174,7 +174,7 @@ fn counted<L: Ledger>(
     let table = Table::new(alloc, algebra)?;
     let mut seat = table.seat(alloc)?;
     let mut steps = Steps::<L>::start(blank);
-    Ok(reduced(alloc, &mut seat, journal, &mut steps)?)
+    reduced(alloc, &mut seat, journal, &mut steps)
 }
 
 // Whether these items are the first of the list.
@@ -213,4 +213,48 @@ fn has_item(
     let number = finished.origin.get(place).ok_or("an origin is missing")?;
     let trace = finished.tails.get(place).ok_or("a tail is missing")?;
     Ok(found.equals(&polynomial) && *number == origin && trace.steps() == tail.as_slice())
+}
+
+// The difference of two power products.
+fn difference(alloc: Global, algebra: &Algebra, f: Expo, g: Expo) -> Result<GPoly, Fail>
+    requires f_vars { length f ≡ algebra.now.order.vars }
+    requires g_vars { length g ≡ algebra.now.order.vars }
+    requires f_small { degree f ≤ 4095 }
+    requires g_small { degree g ≤ 4095 }
+    ensures { IfOk result (λ r. IsElement algebra.now r) }
+{
+    let _n = algebra.n();
+    let minus_one = algebra.field().neg(1);
+    let terms = [
+        Term { coef: 1, mono: f },
+        Term {
+            coef: minus_one,
+            mono: g,
+        },
+    ];
+    let difference = GPoly::from_terms(alloc, algebra.field(), algebra.order(), &terms)?;
+    if difference.is_zero() {
+        return Err("an element is not zero".into());
+    }
+    Ok(difference)
+}
+
+// x - y^4000 and z - x^2 by lp with z > x > y: the second step of the tail of z - x^2 has a degree of 8000.
+#[test]
+fn lists_within_the_degree(rt: HostRuntime) -> Result<(), Fail> {
+    let alloc = rt.alloc();
+    let order = Order::new(alloc, &[Block::Lex { len: 3 }], 3)?;
+    let ring = Algebra::commuting(alloc, Field::of(7)?, order, 3)?;
+    let x = difference(alloc, &ring, Expo::of(&[0, 1, 0]), Expo::of(&[0, 0, 4000]))?;
+    let z = difference(alloc, &ring, Expo::of(&[1, 0, 0]), Expo::of(&[0, 2, 0]))?;
+    let journal = Journal {
+        entries: Vec::new(alloc),
+        basis: Vec::from_array(alloc, [x, z]).map_err(AllocError::from)?,
+        outcome: Outcome::Finished,
+    };
+    match counted::<Brand>(alloc, &ring, &journal, Blank::new(1)) {
+        Ok(_) => Err("the degrees add up to 8000".into()),
+        Err(ProductFault::DegreeOver) => Ok(()),
+        Err(ProductFault::Memory) => Err("there is memory".into()),
+    }
 }

@@ -109,6 +109,15 @@ pub fn named(alloc: Global, name: &str) -> Result<Algebra, Fail>
     algebra(alloc, text)
 }
 
+/// The polynomial ring in 16 variables, modulo 7 and under dp.
+pub fn ring_in_sixteen(alloc: Global) -> Result<Algebra, Fail>
+    ensures { IfOk result (λ a. a.order.vars ≡ 16) }
+{
+    let order = Order::new(alloc, &[Block::DegRev { len: 16 }], 16)?;
+    let algebra = Algebra::commuting(alloc, Field::of(7)?, order, 16)?;
+    Ok(algebra)
+}
+
 /// Terms as a text, parted by spaces.
 pub fn text_of(alloc: Global, terms: &[Term]) -> Result<String, AllocError> {
     let mut text = String::new(alloc);

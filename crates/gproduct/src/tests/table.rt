@@ -3,7 +3,7 @@
 ghost use Rattle.std.specs.Prelude.{◌≡◌, IfOk};
 ghost use Rattle.gproduct.specs.Places.{IsPlace};
 
-use super::algebras::{SL2, algebra, named, text_of, three};
+use super::algebras::{SL2, algebra, named, ring_in_sixteen, text_of, three};
 use crate::powers::power_terms;
 use crate::{Learned, Place, Table, TableSeat, value_of};
 use algebra::Algebra;
@@ -128,10 +128,22 @@ fn share_a_cell(alloc: Global, algebra: &Algebra, place: Place) -> Result<bool, 
 }
 
 #[test]
-fn shared_cell_seen(rt: HostRuntime) -> Result<(), Fail> {
+fn shared_cells_seen(rt: HostRuntime) -> Result<(), Fail> {
     let algebra = algebra(rt.alloc(), SL2)?;
-    let place = place_of(rt.alloc(), &algebra, "1 2 2 2")?;
-    assert!(rt; share_a_cell(rt.alloc(), &algebra, place)?);
+    for text in "1 2 1 1|1 2 2 2|1 2 16 2|2 3 16 16".split('|') {
+        let place = place_of(rt.alloc(), &algebra, text)?;
+        assert!(rt; share_a_cell(rt.alloc(), &algebra, place)?, "{text}");
+    }
+    Ok(())
+}
+
+#[test]
+fn first_and_last_cell_of_sixteen(rt: HostRuntime) -> Result<(), Fail> {
+    let algebra = ring_in_sixteen(rt.alloc())?;
+    for text in "1 2 1 1|15 16 16 16".split('|') {
+        let place = place_of(rt.alloc(), &algebra, text)?;
+        assert!(rt; share_a_cell(rt.alloc(), &algebra, place)?, "{text}");
+    }
     Ok(())
 }
 

@@ -13,19 +13,17 @@ use std::alloc::{AllocError, Global};
 use std::test::Fail;
 
 // y x = x y + 1
-pub const WEYL_7: &str = "7|1 1 1|1:0.0.0|0:0.0.0|0:0.0.0";
+const WEYL_7: &str = "7|1 1 1|1:0.0.0|0:0.0.0|0:0.0.0";
 
-pub const WEYL_2: &str = "2|1 1 1|1:0.0.0|0:0.0.0|0:0.0.0";
+const WEYL_2: &str = "2|1 1 1|1:0.0.0|0:0.0.0|0:0.0.0";
 // y x = 3 x y, and y x = 3 x y + 1
-pub const PLANE: &str = "7|3 1 1|0:0.0.0|0:0.0.0|0:0.0.0";
+const PLANE: &str = "7|3 1 1|0:0.0.0|0:0.0.0|0:0.0.0";
 
-pub const Q_WEYL: &str = "7|3 1 1|1:0.0.0|0:0.0.0|0:0.0.0";
+const Q_WEYL: &str = "7|3 1 1|1:0.0.0|0:0.0.0|0:0.0.0";
 // y x = x y + y
-pub const RIGHT: &str = "7|1 1 1|1:0.1.0|0:0.0.0|0:0.0.0";
-// y x = x y + x
-pub const LEFT: &str = "7|1 1 1|1:1.0.0|0:0.0.0|0:0.0.0";
+const RIGHT: &str = "7|1 1 1|1:0.1.0|0:0.0.0|0:0.0.0";
 // sl2 in e, f and h: f e = e f - h, h e = e h + 2 e, h f = f h - 2 f
-pub const SL2: &str = "32003|1 1 1|32002:0.0.1|2:1.0.0|32001:0.1.0";
+const SL2: &str = "32003|1 1 1|32002:0.0.1|2:1.0.0|32001:0.1.0";
 
 /// A text as three, parted by a mark: what follows the second mark is the third.
 pub fn three<'a>(text: &'a str, mark: char) -> Result<(&'a str, &'a str, &'a str), Fail> {
@@ -34,14 +32,14 @@ pub fn three<'a>(text: &'a str, mark: char) -> Result<(&'a str, &'a str, &'a str
     Ok((first, second, third))
 }
 
-// The monomial with these exponents, up to 1000.
+// The monomial with these exponents, up to 1365.
 fn monomial(text: &str) -> Result<Expo, Fail>
     ensures vars { IfOk result (λ m. length m ≡ 3) }
     ensures small { IfOk result (λ m. degree m ≤ 4095) }
 {
     let (x, y, z) = three(text, '.')?;
     let (x, y, z) = (x.parse::<u16>()?, y.parse::<u16>()?, z.parse::<u16>()?);
-    Ok(Expo::of(&[x.min(1000), y.min(1000), z.min(1000)]))
+    Ok(Expo::of(&[x.min(1365), y.min(1365), z.min(1365)]))
 }
 
 // The polynomial with one term.
@@ -69,8 +67,8 @@ pub fn poly(alloc: Global, field: Field, order: &Order, text: &str) -> Result<GP
     Ok(sum)
 }
 
-/// The algebra with these characteristic, numbers and polynomials of the pairs (1, 2), (1, 3) and (2, 3), under dp.
-pub fn algebra(alloc: Global, text: &str) -> Result<Algebra, Fail>
+// The algebra with these characteristic, numbers and polynomials of the pairs (1, 2), (1, 3) and (2, 3), under dp.
+fn algebra(alloc: Global, text: &str) -> Result<Algebra, Fail>
     ensures { IfOk result (λ a. a.order.vars ≡ 3) }
 {
     let (characteristic, others) = text.split_once('|').ok_or("an algebra has five parts")?;
@@ -103,7 +101,6 @@ pub fn named(alloc: Global, name: &str) -> Result<Algebra, Fail>
         "plane" => PLANE,
         "q-weyl" => Q_WEYL,
         "right" => RIGHT,
-        "left" => LEFT,
         _ => SL2,
     };
     algebra(alloc, text)

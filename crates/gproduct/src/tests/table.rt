@@ -3,7 +3,7 @@
 ghost use Rattle.std.specs.Prelude.{◌≡◌, IfOk};
 ghost use Rattle.gproduct.specs.Places.{IsPlace};
 
-use super::algebras::{SL2, algebra, named, ring_in_sixteen, text_of, three};
+use super::algebras::{named, ring_in_sixteen, text_of, three};
 use crate::powers::power_terms;
 use crate::{Learned, Place, Table, TableSeat, value_of};
 use algebra::Algebra;
@@ -47,102 +47,51 @@ fn learns(alloc: Global, seat: &mut TableSeat, place: Place) -> Result<bool, Fai
     Ok(matches!(learned, Learned::Shared))
 }
 
-// An algebra, a place, and its value.
+// An algebra, a place, and its value: also the first and the last place, of three variables and of sixteen.
 const VALUES: &str = "\
 weyl 7|1 2 2 2|1:2.2.0 4:1.1.0 2:0.0.0
-weyl 7|1 2 3 4|1:4.3.0 5:3.2.0 1:2.1.0 3:1.0.0
-weyl 7|1 2 7 7|1:7.7.0
-weyl 7|1 3 2 3|1:3.0.2
-weyl 2|1 2 2 1|1:1.2.0
-weyl 2|1 2 2 2|1:2.2.0
-weyl 2|1 2 3 2|1:2.3.0
-weyl 2|1 2 3 5|1:5.3.0 1:4.2.0
 plane|1 2 1 1|3:1.1.0
-plane|1 2 1 2|2:2.1.0
-plane|1 2 2 3|1:3.2.0
-q-weyl|1 2 2 1|2:1.2.0 4:0.1.0
+plane|2 3 16 16|1:0.16.16
 right|1 2 1 2|1:2.1.0 2:1.1.0 1:0.1.0
-sl2|1 2 1 1|1:1.1.0 32002:0.0.1
-sl2|1 2 2 1|1:1.2.0 32001:0.1.1 2:0.1.0
 sl2|1 2 2 2|1:2.2.0 31999:1.1.1 2:0.0.2 2:0.0.1
-sl2|1 3 2 2|1:2.0.2 8:2.0.1 16:2.0.0
-sl2|2 3 2 1|1:0.1.2 31999:0.1.1 4:0.1.0
-sl2|2 3 1 3|1:0.3.1 31997:0.3.0";
+sixteen|1 2 1 1|1:1.1.0.0.0.0.0.0.0.0.0.0.0.0.0.0
+sixteen|15 16 16 16|1:0.0.0.0.0.0.0.0.0.0.0.0.0.0.16.16";
 
-// The value of a place as a new seat learns it.
-fn learned_text(alloc: Global, algebra: &Algebra, place: Place) -> Result<String, Fail>
-    requires { IsPlace algebra.now place }
-{
-    let table = Table::new(alloc, algebra)?;
-    let mut seat = table.seat(alloc)?;
-    if seat.known(place).is_some() || !learns(alloc, &mut seat, place)? {
-        return Err("a new seat learns a place".into());
-    }
-    let value = seat.known(place).ok_or("the seat knows the place")?;
-    let text = text_of(alloc, value.terms())?;
-    Ok(text)
-}
-
-// The value of a place computed alone.
-fn value_text(alloc: Global, algebra: &Algebra, place: Place) -> Result<String, Fail>
-    requires { IsPlace algebra.now place }
-{
-    let value = value_of(alloc, algebra, place)?;
-    let text = text_of(alloc, value.terms())?;
-    Ok(text)
-}
-
-// Whether the place has this value in the named algebra, computed alone and learned.
-fn has_value(alloc: Global, name: &str, place: &str, want: &str) -> Result<bool, Fail> {
-    let algebra = named(alloc, name)?;
-    let place = place_of(alloc, &algebra, place)?;
-    let alone = value_text(alloc, &algebra, place)?;
-    let learned = learned_text(alloc, &algebra, place)?;
-    Ok(alone.as_str() == want && learned.as_str() == want)
-}
-
-#[test]
-fn values_of_places(rt: HostRuntime) -> Result<(), Fail> {
-    for row in VALUES.lines() {
-        let (name, place, want) = three(row, '|')?;
-        assert!(rt; has_value(rt.alloc(), name, place, want)?, "{row}");
-    }
-    Ok(())
-}
-
-// Whether a second seat knows nothing of what the first learns, then learns it by the same cell, and
-// knows the same polynomial.
-fn share_a_cell(alloc: Global, algebra: &Algebra, place: Place) -> Result<bool, Fail>
+// The value of a place, which one seat learns, and then a second by the same cell.
+fn shared_value(alloc: Global, algebra: &Algebra, place: Place) -> Result<String, Fail>
     requires { IsPlace algebra.now place }
 {
     let table = Table::new(alloc, algebra)?;
     let (mut first, mut second) = (table.seat(alloc)?, table.seat(alloc)?);
     let first_learns = learns(alloc, &mut first, place)?;
-    let unknown = second.known(place).is_none();
-    let second_learns = learns(alloc, &mut second, place)?;
-    let here = first.known(place).ok_or("the first seat knows the place")?;
-    let there = second
-        .known(place)
-        .ok_or("the second seat knows the place")?;
-    Ok(first_learns && unknown && second_learns && here.equals(there))
+    if !first_learns || second.known(place).is_some() || !learns(alloc, &mut second, place)? {
+        return Err("both seats learn a place by its cell".into());
+    }
+    let value = second.known(place).ok_or("the second seat knows it")?;
+    let alone = value_of(alloc, second.algebra(), place)?;
+    if !alone.equals(value) {
+        return Err("the value that a seat knows is the one computed alone".into());
+    }
+    Ok(text_of(alloc, value.terms())?)
+}
+
+// The same in the named algebra.
+fn named_value(alloc: Global, name: &str, place: &str) -> Result<String, Fail> {
+    let algebra = if name == "sixteen" {
+        ring_in_sixteen(alloc)?
+    } else {
+        named(alloc, name)?
+    };
+    let place = place_of(alloc, &algebra, place)?;
+    shared_value(alloc, &algebra, place)
 }
 
 #[test]
 fn shared_cells_seen(rt: HostRuntime) -> Result<(), Fail> {
-    let algebra = algebra(rt.alloc(), SL2)?;
-    for text in "1 2 1 1|1 2 2 2|1 2 16 2|2 3 16 16".split('|') {
-        let place = place_of(rt.alloc(), &algebra, text)?;
-        assert!(rt; share_a_cell(rt.alloc(), &algebra, place)?, "{text}");
-    }
-    Ok(())
-}
-
-#[test]
-fn first_and_last_cell_of_sixteen(rt: HostRuntime) -> Result<(), Fail> {
-    let algebra = ring_in_sixteen(rt.alloc())?;
-    for text in "1 2 1 1|15 16 16 16".split('|') {
-        let place = place_of(rt.alloc(), &algebra, text)?;
-        assert!(rt; share_a_cell(rt.alloc(), &algebra, place)?, "{text}");
+    for row in VALUES.lines() {
+        let (name, place, want) = three(row, '|')?;
+        let got = named_value(rt.alloc(), name, place)?;
+        assert_eq!(rt; got.as_str(), want, "{row}");
     }
     Ok(())
 }
@@ -150,11 +99,7 @@ fn first_and_last_cell_of_sixteen(rt: HostRuntime) -> Result<(), Fail> {
 // An algebra, two variables with the greatest exponents, the exponents of the product, and the product.
 const POWERS: &str = "\
 weyl 7|1 2 17 1|17 1|1:1.17.0 3:0.16.0
-weyl 7|1 3 900 900|900 900|1:900.0.900
-weyl 2|1 2 2 9|2 9|1:9.2.0
 plane|1 2 900 900|900 900|1:900.900.0
-plane|1 2 1 901|1 901|3:901.1.0
-sl2|1 2 3 1|3 1|1:1.3.0 32000:0.2.1 6:0.2.0
 sl2|1 2 20 1|16 1|1:1.16.0 31987:0.15.1 240:0.15.0
 sl2|1 3 1 18|1 18|1:18.0.1 36:18.0.0";
 

@@ -1,4 +1,0 @@
-use Rattle.gproduct.proofs.tests.products.product_of.Given as goal
-
-abbrev pub ghosts-product : goal.ghosts-product
-ghosts-product a = record { name = a.blank.name; parts = a.blank.parts }

@@ -1,6 +1,6 @@
 //! The kinds of an algebra's relations, found once and kept.
 
-ghost use Rattle.std.specs.Prelude.{◌≡◌, ◌<◌, ◌≤◌, IfOk, IfSome};
+ghost use Rattle.std.specs.Prelude.{◌≡◌, ◌<◌, ◌≤◌, Some, IfOk, IfSome};
 ghost use Rattle.closed_forms.specs.Kinds.{HasKind};
 ghost use Rattle.gproduct.specs.Inside.Swaps.{AreKinds};
 
@@ -16,7 +16,8 @@ pub(crate) fn kind_at(alg: &Algebra, i: u8, j: u8) -> Option<PairKind>
     requires first { 1 ≤ i }
     requires ordered { i < j }
     requires last { j ≤ alg.now.order.vars }
-    ensures { IfSome result (λ kind. HasKind alg.now i j kind) }
+    ensures kind { IfSome result (λ kind. HasKind alg.now i j kind) }
+    ensures full { (kind : _) → HasKind alg.now i j kind → result ≡ Some kind }
 {
     let _n = alg.n();
     kind_of(alg.field(), alg.c(i, j), alg.d(i, j), i, j)
@@ -25,7 +26,8 @@ pub(crate) fn kind_at(alg: &Algebra, i: u8, j: u8) -> Option<PairKind>
 // The kind, where i < j are variables of the algebra and their relation has one.
 fn kind_if_pair(alg: &Algebra, i: u8, j: u8) -> Option<PairKind>
     requires { 1 ≤ i }
-    ensures { IfSome result (λ kind. HasKind alg.now i j kind) }
+    ensures kind { IfSome result (λ kind. HasKind alg.now i j kind) }
+    ensures full { (kind : _) → HasKind alg.now i j kind → result ≡ Some kind }
 {
     if i < j && usize::from(j) <= alg.n() {
         kind_at(alg, i, j)
@@ -51,7 +53,8 @@ pub(crate) fn kept_kind(kinds: &[Option<PairKind>], i: u8, j: u8) -> Option<Pair
     requires first { 1 ≤ i }
     requires ordered { i < j }
     requires last { j ≤ 16 }
-    ensures { (alg : _) → AreKinds alg kinds.now → IfSome result (λ kind. HasKind alg i j kind) }
+    ensures kind { (alg : _) → AreKinds alg kinds.now → IfSome result (λ kind. HasKind alg i j kind) }
+    ensures full { (alg : _) (kind : _) → AreKinds alg kinds.now → HasKind alg i j kind → result ≡ Some kind }
 {
     let place = usize::from(i - 1) * usize::from(MOST_VARIABLES) + usize::from(j - 1);
     match kinds.get(place) {

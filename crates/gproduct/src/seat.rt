@@ -126,7 +126,8 @@ impl<'t, 'r> TableSeat<'t, 'r> {
         requires first { 1 ≤ i }
         requires ordered { i < j }
         requires last { j ≤ self.now.algebra.order.vars }
-        ensures { IfSome result (λ kind. HasKind self.now.algebra i j kind) }
+        ensures kind { IfSome result (λ kind. HasKind self.now.algebra i j kind) }
+        ensures full { (kind : _) → HasKind self.now.algebra i j kind → result ≡ Some kind }
     {
         self.table.kind(i, j)
     }

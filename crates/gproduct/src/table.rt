@@ -85,7 +85,8 @@ impl<'r> Table<'r> {
         requires first { 1 ≤ i }
         requires ordered { i < j }
         requires last { j ≤ self.now.order.vars }
-        ensures { IfSome result (λ kind. HasKind self.now i j kind) }
+        ensures kind { IfSome result (λ kind. HasKind self.now i j kind) }
+        ensures full { (kind : _) → HasKind self.now i j kind → result ≡ Some kind }
     {
         let _n = self.algebra.n();
         kept_kind(&self.kinds, i, j)

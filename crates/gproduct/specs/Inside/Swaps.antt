@@ -1,5 +1,5 @@
 -- Two powers in the wrong order, and the kinds of relations that a table keeps.
-use Rattle.std.specs.Prelude.{◌≡◌, ℕ, ◌+◌, ◌/◌, ◌%◌, ◌<◌, ◌≤◌, ◌++◌, replicate, List, Option, Some, None, slice_index_or}
+use Rattle.std.specs.Prelude.{◌≡◌, ℕ, ◌+◌, ◌/◌, ◌%◌, ◌<◌, ◌≤◌, ◌++◌, length, replicate, List, Option, Some, None, slice_index_or}
 use Rattle.word_model.specs.Words.{Algebra, Word}
 use Rattle.closed_forms.specs.declared.PairKind.{PairKind}
 use Rattle.closed_forms.specs.Kinds.{HasKind}
@@ -16,7 +16,12 @@ pub record IsSwap (A : Algebra) (swap : Swap) : Type 0 where
 abbrev pub swap_word : Swap → Word
 swap_word swap = replicate swap.a swap.j ++ replicate swap.b swap.i
 
--- Each kind that a list has is that of the algebra's relation of x_i and x_j, where i - 1 and j - 1 are the digits of
--- its place to the base 16.
+-- The items of a list are the kinds of the algebra's relations of x_i and x_j, where i - 1 and j - 1 are the digits of the
+-- item's place to the base 16: none where the relation has no kind, or where these are no two variables in order.
+pub record AreFirstKinds (A : Algebra) (kinds : List (Option PairKind)) : Type 0 where
+  pub right : (k : ℕ) (kind : PairKind) → slice_index_or kinds k None ≡ Some kind → HasKind A (k / 16 + 1) (k % 16 + 1) kind
+  pub full : (k : ℕ) (kind : PairKind) → k < length kinds → HasKind A (k / 16 + 1) (k % 16 + 1) kind → slice_index_or kinds k None ≡ Some kind
+
+-- a list of the kinds of all relations
 abbrev pub AreKinds : Algebra → List (Option PairKind) → Type 0
-AreKinds A kinds = (k : ℕ) (kind : PairKind) → slice_index_or kinds k None ≡ Some kind → HasKind A (k / 16 + 1) (k % 16 + 1) kind
+AreKinds A kinds = (length kinds ≡ 240) × AreFirstKinds A kinds

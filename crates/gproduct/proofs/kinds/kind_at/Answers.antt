@@ -31,8 +31,12 @@ pub returns : goal.returns
 returns c =
     let A : Algebra = c.args.alg.now in
     let is_polynomial : IsPolynomial A.p A.order (d_of A c.args.i c.args.j) = IsPolynomial-d_of A c.n-n.ensures.data c.args.i c.args.j in
-    has_kind A c.args.i c.args.j c.kind_of.result c.requires.first c.requires.ordered c.requires.last
-    (λ kind found.
-    let is : IsOfKind c.field.result A.order.vars c.args.i c.args.j kind c.c.result c.d.result.now =
-    (c.kind_of.ensures A.order.vars kind (subst (HasVars A.order.vars) (sym c.d.ensures) is_polynomial.vars)).0 found in
-    moved _ _ _ kind _ _ _ _ _ _ c.field.ensures c.c.ensures c.d.ensures is)
+    record {
+      kind = has_kind A c.args.i c.args.j c.kind_of.result c.requires.first c.requires.ordered c.requires.last
+          (λ kind found.
+          let is : IsOfKind c.field.result A.order.vars c.args.i c.args.j kind c.c.result c.d.result.now =
+          (c.kind_of.ensures A.order.vars kind (subst (HasVars A.order.vars) (sym c.d.ensures) is_polynomial.vars)).0 found in
+          moved _ _ _ kind _ _ _ _ _ _ c.field.ensures c.c.ensures c.d.ensures is);
+      full = λ kind has. (c.kind_of.ensures A.order.vars kind (subst (HasVars A.order.vars) (sym c.d.ensures) is_polynomial.vars)).1
+          (moved _ _ _ kind _ _ _ _ _ _ (sym c.field.ensures) (sym c.c.ensures) (sym c.d.ensures) has.relation);
+    }

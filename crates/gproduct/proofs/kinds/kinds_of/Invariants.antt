@@ -1,9 +1,9 @@
 use Rattle.std.proofs.Common.{◌≡◌, length}
-use Rattle.gproduct.specs.Inside.Swaps.{AreKinds}
+use Rattle.gproduct.specs.Inside.Swaps.{AreFirstKinds}
 use Rattle.gproduct.proofs.kinds.kinds_of.Given as goal
 
 abbrev pub invariant-loop-place : goal.invariant-loop-place
 invariant-loop-place l = record {
   places : length l.kinds.items ≡ l.place;
-  kinds : AreKinds l.alg l.kinds.items;
+  kinds : AreFirstKinds l.alg l.kinds.items;
 }

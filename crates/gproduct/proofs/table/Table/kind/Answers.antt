@@ -5,6 +5,10 @@ use Rattle.gproduct.specs.Inside.Swaps.{AreKinds}
 use Rattle.gproduct.proofs.table.Table.kind.Goals as goal
 
 pub returns : goal.returns
-returns c =
-    subst (λ (A : Algebra). IfSome c.kept_kind.result (λ kind. HasKind A c.args.i c.args.j kind)) c.self.view_is
-    (c.kept_kind.ensures c.self.inside.algebra.now (subst (AreKinds c.self.inside.algebra.now) (sym c.deref.ensures.value) c.self.invariant.0))
+returns c = record {
+  kind = subst (λ (A : Algebra). IfSome c.kept_kind.result (λ kind. HasKind A c.args.i c.args.j kind)) c.self.view_is
+      (c.kept_kind.ensures.kind c.self.inside.algebra.now (subst (AreKinds c.self.inside.algebra.now) (sym c.deref.ensures.value) c.self.invariant.0));
+  full = λ kind has.
+      c.kept_kind.ensures.full c.self.inside.algebra.now kind (subst (AreKinds c.self.inside.algebra.now) (sym c.deref.ensures.value) c.self.invariant.0)
+      (subst (λ (A : Algebra). HasKind A c.args.i c.args.j kind) (sym c.self.view_is) has);
+}

@@ -6,9 +6,9 @@ ghost use Rattle.word_model.specs.Bases.{RunLaws};
 ghost use Rattle.word_model.specs.Machine.{machine};
 ghost use Rattle.word_model.specs.Products.{degree_limit};
 
+use crate::Mode;
 use algebra::Algebra;
 use gpoly::GPoly;
-use crate::Mode;
 
 /// Each run of the machine over these generators has the laws of runs. An engine calls it once for
 /// its clause `run`. Takes no memory.

@@ -8,10 +8,10 @@ ghost use Rattle.word_model.specs.Bases.{RunLaws};
 ghost use Rattle.word_model.specs.Machine.{machine};
 
 use algebra::Algebra;
+pub use bases::runs_have_laws;
 use gpoly::GPoly;
 use std::alloc::{AllocError, Global};
 use std::marker::Model;
-pub use bases::runs_have_laws;
 pub use word_model::records::{Entry, Job, Mode, Outcome, Trace, TraceStep};
 
 /// A run of the machine: what it did with its jobs in order, the basis that it made, and how it

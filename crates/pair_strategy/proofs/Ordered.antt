@@ -1,16 +1,11 @@
 -- The order of keys is total, and tells any two jobs apart.
-use Rattle.std.proofs.Common.{◌≡◌, ◌≢◌, ℕ, ◌&&◌, ◌==◌, Bool, true, false, List, refl, sym, ap, ◌∙◌, arith}
+use Rattle.std.proofs.Common.{◌≡◌, ◌≢◌, true, false, refl, sym, ap, ◌∙◌}
 use Rattle.std.proofs.Common.{Ordering, Less, Equal, Greater, nat_cmp, is_lt}
-use Rattle.std.proofs.lemmas.Bool.Decides.{nat_tests}
 use Rattle.std.specs.Ordering.{ordering_then, ordering_reverse}
 use Rattle.std.specs.Cmp.{IsTotalOrder, then_total, on_total, nat_cmp_total}
 use Rattle.monomials.specs.Orders.{RowOrder, order_cmp}
-use Rattle.monomials.specs.Polynomials.{Polynomial}
 use Rattle.monomials.proofs.OrderLaws.{order_cmp_total}
-use Rattle.word_model.specs.Words.{Algebra}
-use Rattle.word_model.specs.Jobs.{same_job, rank_of, rank_cmp, key_monomial, key_cmp}
-use Rattle.word_model.specs.declared.records.Job.{Job}
-use Rattle.word_model.specs.declared.records.Job.TheVariants.{Seed, Pair, Right}
+use Rattle.word_model.specs.Jobs.{same_job, rank_of, rank_cmp}
 use Rattle.word_model.proofs.JobLists.{same_job-itself}
 use Rattle.word_model.proofs.JobOrder.{rank_total, rank_tied, second_tied}
 use Rattle.pair_strategy.specs.Queues.{keyed_cmp}

@@ -1,4 +1,4 @@
-use Rattle.std.proofs.Common.{◌≡◌, length, ap, ◌∙◌, arith}
+use Rattle.std.proofs.Common.{◌≡◌, ap, ◌∙◌, arith}
 use Rattle.monomials.specs.Monomials.{degree}
 use Rattle.monomials.specs.Leading.{leading_monomial}
 use Rattle.word_model.specs.Reduction.{element}

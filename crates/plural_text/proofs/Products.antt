@@ -15,10 +15,11 @@ use Rattle.monomials.specs.Polynomials.{Each}
 use Rattle.monomials.proofs.Exponents.{sum-zeros}
 use Rattle.word_model.specs.Texts.{power_text, power_texts}
 use Rattle.plural_text.specs.Names.{IsName, AreDifferent, AreNames, is_digit}
-use Rattle.plural_text.specs.Readings.{read_number, read_name, times_power, times_factor, times_factors, read_product, PolyTerm}
+use Rattle.plural_text.specs.Readings.{read_number, read_name, times_power, times_factor, times_factors, read_product, PolyTerm, power_of}
 use Rattle.plural_text.proofs.Characters.{is_power_byte, is_product_byte, all_weaker, all_append, power_in_product, power_no_star}
 use Rattle.plural_text.proofs.Numbers.{digits_of_decimal, read_number-decimal, decimal_is_number}
 use Rattle.plural_text.proofs.Powers.{read_name_at, read_power_text, power_is_no_number, digit_in_power, power_bytes}
+use Rattle.plural_text.proofs.Steps.{power_of-zeros}
 
 -- ---- factors
 
@@ -80,7 +81,10 @@ times_power_next front e k small =
     let size : length (front ++ replicate (suc k) 0) ≡ length front + suc k =
     length-append front (replicate (suc k) 0) ∙ ap (λ n. length front + n) (length-replicate {A = ℕ} (suc k) 0) in
     let behind : length front + suc k - length front - 1 ≡ k = omega arith in
-    rw (total, le-leb (sum front + e) 4095 small, size, behind, plus_power front e k) refl
+    let power : power_of (length front + suc k) (length front, e) ≡ replicate (length front) 0 ++ (e ∷ replicate k 0) =
+    power_of-zeros (length front + suc k) (length front) e ∙ ap (λ j. replicate (length front) 0 ++ (e ∷ replicate j 0)) behind in
+    rw (total, le-leb (sum front + e) 4095 small, size)
+    (ap (λ (m : Monomial). Some m) (ap (λ (w : Monomial). plus (front ++ replicate (suc k) 0) w) power ∙ plus_power front e k))
 
 module _ (p : ℕ) (names : List (List ℕ)) where
   -- a power among the factors

@@ -1,10 +1,9 @@
 -- Steps of the code that reads, as equations of lists.
 use Rattle.std.proofs.Common.{◌≡◌, ℕ, zero, suc, ◌+◌, ◌-◌, ◌<◌, ◌≤◌, List, [], ◌∷◌, ◌++◌, length, map, take, drop, get_or, replicate, Bool, Option, refl, sym, ◌∙◌, ap, arith, inl, inr}
-use Rattle.std.proofs.Math.ListN.{set}
 use Rattle.std.specs.Prelude.{option_and_then, position}
 use Rattle.std.specs.List.{position_or_len}
 use Rattle.std.proofs.lemmas.Bool.{cases_Bool}
-use Rattle.std.proofs.lemmas.List.{at_drop_more, length-map, length-append, length-replicate, take-replicate}
+use Rattle.std.proofs.lemmas.List.{at_drop_more, length-map, length-append, length-replicate}
 use Rattle.std.proofs.lemmas.List.Sums.{sum_by-append, sum_by-cons}
 use Rattle.monomials.specs.Monomials.{Monomial, degree, plus}
 use Rattle.monomials.specs.Polynomials.{Each}
@@ -32,25 +31,24 @@ times_factors_more p names t all i text r within is times =
     ∙ (ap (λ w. times_factors p names t (w ∷ drop (i + 1) all)) (sym is)
     ∙ ap (option_and_then (λ (u : PolyTerm). times_factors p names u (drop (i + 1) all))) times)
 
--- an exponent among zeros
-pub take-set_power : (n k m e : ℕ) → k < n → n ≤ m → take {A = ℕ} n (set (replicate m 0) k e) ≡ power_of n (k, e)
-take-set_power zero k m e h le = absurd (omega arith)
-take-set_power (suc n) k zero e h le = absurd (omega arith)
-take-set_power (suc n) zero (suc m) e h le =
-    let size : suc n - 0 - 1 ≡ n = omega arith in rw size (ap (λ z. e ∷ z) (take-replicate n m 0 (omega arith)))
-take-set_power (suc n) (suc k) (suc m) e h le =
-    let size : suc n - suc k - 1 ≡ n - k - 1 = omega arith in
-    rw size (ap (λ z. 0 ∷ z) (take-set_power n k m e (omega arith) (omega arith)))
+-- a power, as the exponent among zeros
+pub power_of-zeros : (n k e : ℕ) → power_of n (k, e) ≡ replicate k 0 ++ (e ∷ replicate (n - k - 1) 0)
+power_of-zeros n k e =
+    let front : k + 1 - 1 ≡ k = omega arith in
+    let back : n - (k + 1) ≡ n - k - 1 = omega arith in
+    rw (front, back) refl
 
 length-power_of : (n k e : ℕ) → k < n → length (power_of n (k, e)) ≡ n
 length-power_of n k e h =
-    length-append (replicate k 0) (e ∷ replicate (n - k - 1) 0)
-    ∙ omega (arith, length-replicate {A = ℕ} k 0, length-replicate {A = ℕ} (n - k - 1) 0)
+    ap length (power_of-zeros n k e)
+    ∙ (length-append (replicate k 0) (e ∷ replicate (n - k - 1) 0)
+    ∙ omega (arith, length-replicate {A = ℕ} k 0, length-replicate {A = ℕ} (n - k - 1) 0))
 
 degree-power_of : (n k e : ℕ) → degree (power_of n (k, e)) ≡ e
 degree-power_of n k e =
-    sum_by-append (λ x. x) (replicate k 0) (e ∷ replicate (n - k - 1) 0)
-    ∙ omega (arith, sum-zeros k, sum-zeros (n - k - 1), sum_by-cons (λ x. x) e (replicate (n - k - 1) 0))
+    ap degree (power_of-zeros n k e)
+    ∙ (sum_by-append (λ x. x) (replicate k 0) (e ∷ replicate (n - k - 1) 0)
+    ∙ omega (arith, sum-zeros k, sum-zeros (n - k - 1), sum_by-cons (λ x. x) e (replicate (n - k - 1) 0)))
 
 -- a monomial times a power
 pub length-times : (m : Monomial) (k e : ℕ) → k < length m → length (plus m (power_of (length m) (k, e))) ≡ length m

@@ -3,7 +3,7 @@
 use Rattle.std.specs.Prelude.{ℕ, ◌+◌, ◌-◌, ◌*◌, ◌%◌, Bool, false, ◌&&◌, ◌||◌, ◌==◌, nat_le, List, [], ◌∷◌, ◌++◌, length, replicate, take, drop, position, bytes_eq, Option, Some, None, option_and_then, if◌then◌else◌}
 use Rattle.std.specs.List.{position_or_len, slice_split}
 use Rattle.std.specs.Option.{option_map}
-use Rattle.monomials.specs.Monomials.{Monomial, degree, plus, one}
+use Rattle.monomials.specs.Monomials.{Monomial, degree, plus, one, power}
 use Rattle.plural_text.specs.Names.{is_digit}
 
 -- `+` or `-`, with which a later term begins
@@ -53,7 +53,7 @@ read_power names text = read_power_at names (position_or_len is_caret text) text
 
 -- the power of a variable, as a monomial in n variables
 abbrev pub power_of : ℕ → Power → Monomial
-power_of n power = replicate power.0 0 ++ (power.1 ∷ replicate (n - power.0 - 1) 0)
+power_of n (place, e) = power n (place + 1) e
 
 -- a term: its number and its monomial
 abbrev pub PolyTerm : Type 0

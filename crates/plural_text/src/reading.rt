@@ -11,14 +11,11 @@ ghost use Rattle.plural_text.specs.Readings.{is_sign, is_number, first_len, is_c
 ghost use Rattle.plural_text.specs.Spelling.{Spells};
 
 use crate::printing::poly_text;
-use algebra::Algebra;
+use algebra::{Algebra, DEGREE_LIMIT};
 use gpoly::{GPoly, Term};
 use monomials::Expo;
 use prime_field::Field;
 use std::alloc::{AllocError, Global};
-
-/// The greatest degree of a polynomial.
-const MOST_DEGREE: u32 = 4095;
 
 /// Why bytes were not read as a polynomial.
 #[derive(Clone, Copy, Debug, PartialEq, Eq)]
@@ -217,12 +214,12 @@ fn times_power(mono: &Expo, power: Power) -> Option<Expo>
     ensures vars { IfSome result (λ m. length m ≡ length mono.now) }
     ensures small { IfSome result (λ m. degree m ≤ 4095) }
 {
-    if mono.degree() + power.exponent > MOST_DEGREE {
+    if mono.degree() + power.exponent > DEGREE_LIMIT {
         return None;
     }
-    let mut exponents = [0; 16];
-    exponents[power.place] = power.exponent as u16;
-    Some(mono.plus(&Expo::of(&exponents[..mono.len()])))
+    let number = power.place as u8 + 1;
+    let power = Expo::power(mono.len(), number, power.exponent as u16);
+    Some(mono.plus(&power))
 }
 
 // Whether a factor is a number.
@@ -260,7 +257,7 @@ fn read_exponent(text: &[u8]) -> Option<u32>
 {
     match text.split_first() {
         None => Some(1),
-        Some((_caret, digits)) => read_number(digits, MOST_DEGREE),
+        Some((_caret, digits)) => read_number(digits, DEGREE_LIMIT),
     }
 }
 

@@ -2,7 +2,7 @@ use Rattle.std.proofs.Common.{◌≡◌, ℕ, ◌+◌, List, length, nat_le, tru
 use Rattle.std.proofs.lemmas.Bool.{le-leb}
 use Rattle.monomials.specs.Monomials.{degree, plus}
 use Rattle.plural_text.specs.Readings.{power_of}
-use Rattle.plural_text.proofs.Steps.{take-set_power, length-times, degree-times}
+use Rattle.plural_text.proofs.Steps.{length-times, degree-times}
 use Rattle.plural_text.proofs.reading.times_power.Goals as goal
 
 -- the code's product is that with the power
@@ -12,8 +12,7 @@ times c =
     let n = c.len.result in
     let size : n ≡ length m = c.len.ensures.length in
     c.plus.ensures ∙ ap (λ (w : List ℕ). plus m w)
-    (c.of.ensures ∙ (take-set_power n c.args.power.place 16 c.args.power.exponent (omega (arith, c.requires.place)) (omega (arith, c.requires.few))
-    ∙ ap (λ z. power_of z (c.args.power.place, c.args.power.exponent)) size))
+    (c.power-power.ensures ∙ ap (λ z. power_of z (c.args.power.place, c.args.power.exponent)) size)
 
 pub returns-clause-value : goal.returns-clause-value
 returns-clause-value c =

@@ -25,7 +25,8 @@ use std::sync::ledger::Ledger;
 /// The most entries that a run may have.
 const BUDGET: u32 = 100000;
 
-/// The reply to a request for the reduced left Gröbner basis of the products of these letters.
+/// The reply to a request for the reduced Gröbner basis of the left ideal of the products of these
+/// letters: its text where the machine's run is finished and its list is reduced, else a refusal.
 pub fn reply_to_basis<L: Ledger>(
     alloc: Global,
     seat: &mut TableSeat,

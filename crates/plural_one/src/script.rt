@@ -32,7 +32,7 @@ pub struct Numbers {
 pub enum Request {
     /// This product.
     Product(Vec<u8>),
-    /// The reduced left Gröbner basis of these products.
+    /// The reduced Gröbner basis of the left ideal of these products.
     Basis(Vec<Vec<u8>>),
 }
 

@@ -363,12 +363,7 @@ impl Lead {
         ensures low { result ≤ 4095 + 8190 * (length self.now.basis + 1) }
     {
         let progress = &self.progress;
-        let key = job_key(
-            &progress.basis,
-            &progress.sugars,
-            &self.generators,
-            job,
-        );
+        let key = job_key(&progress.basis, &progress.sugars, &self.generators, job);
         element_sugar(&progress.sugars, key.sugar, trace)
     }
 

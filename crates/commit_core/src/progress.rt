@@ -106,14 +106,7 @@ impl Progress {
         self.sugars.push(sugar).unwrap();
         self.entries.push(entry).unwrap();
         self.queue.take_first();
-        push_jobs(
-            &mut self.queue,
-            alg,
-            gens,
-            &self.basis,
-            &self.sugars,
-            mode,
-        );
+        push_jobs(&mut self.queue, alg, gens, &self.basis, &self.sugars, mode);
         Ok(())
     }
 }
@@ -169,7 +162,14 @@ fn brought_count(mode: Mode, n: usize, others: usize) -> usize
 }
 
 // Queues the jobs that the last element brings, of which none is queued.
-fn push_jobs(queue: &mut Queue, alg: &Algebra, gens: &[GPoly], basis: &Vec<GPoly>, sugars: &[u32], mode: Mode)
+fn push_jobs(
+    queue: &mut Queue,
+    alg: &Algebra,
+    gens: &[GPoly],
+    basis: &Vec<GPoly>,
+    sugars: &[u32],
+    mode: Mode,
+)
     requires generators { Each (IsPolynomial alg.now.p alg.now.order) gens.now }
     requires elements { Each (IsElement alg.now) basis.now.items }
     requires sugars { AreSugars basis.now.items sugars.now }
@@ -195,7 +195,14 @@ fn push_jobs(queue: &mut Queue, alg: &Algebra, gens: &[GPoly], basis: &Vec<GPoly
 }
 
 // Queues the pairs of the other elements with the last, whose number is `m`.
-fn push_pairs(queue: &mut Queue, alg: &Algebra, gens: &[GPoly], basis: &Vec<GPoly>, sugars: &[u32], m: u32)
+fn push_pairs(
+    queue: &mut Queue,
+    alg: &Algebra,
+    gens: &[GPoly],
+    basis: &Vec<GPoly>,
+    sugars: &[u32],
+    m: u32,
+)
     requires generators { Each (IsPolynomial alg.now.p alg.now.order) gens.now }
     requires elements { Each (IsElement alg.now) basis.now.items }
     requires sugars { AreSugars basis.now.items sugars.now }
@@ -217,7 +224,14 @@ fn push_pairs(queue: &mut Queue, alg: &Algebra, gens: &[GPoly], basis: &Vec<GPol
 }
 
 // Queues the products of the last element, whose number is `m`, with the variables.
-fn push_rights(queue: &mut Queue, alg: &Algebra, gens: &[GPoly], basis: &Vec<GPoly>, sugars: &[u32], m: u32)
+fn push_rights(
+    queue: &mut Queue,
+    alg: &Algebra,
+    gens: &[GPoly],
+    basis: &Vec<GPoly>,
+    sugars: &[u32],
+    m: u32,
+)
     requires generators { Each (IsPolynomial alg.now.p alg.now.order) gens.now }
     requires elements { Each (IsElement alg.now) basis.now.items }
     requires sugars { AreSugars basis.now.items sugars.now }
@@ -238,7 +252,14 @@ fn push_rights(queue: &mut Queue, alg: &Algebra, gens: &[GPoly], basis: &Vec<GPo
 }
 
 // Queues a job that is not queued, in room that was made before.
-fn push_job(queue: &mut Queue, alg: &Algebra, gens: &[GPoly], basis: &Vec<GPoly>, sugars: &[u32], job: Job)
+fn push_job(
+    queue: &mut Queue,
+    alg: &Algebra,
+    gens: &[GPoly],
+    basis: &Vec<GPoly>,
+    sugars: &[u32],
+    job: Job,
+)
     requires generators { Each (IsPolynomial alg.now.p alg.now.order) gens.now }
     requires elements { Each (IsElement alg.now) basis.now.items }
     requires sugars { AreSugars basis.now.items sugars.now }

@@ -153,7 +153,9 @@ fn journal_text(alloc: Global, journal: &Journal) -> Result<String, AllocError> 
 // The journal over the generators of a line, which has the mode's letter and the budget before them,
 // where a second run makes the same one again.
 fn run(alloc: Global, engine: &mut OneWorker, alg: &Algebra, line: &str) -> Result<String, Fail> {
-    let (limit, gens) = line.split_once(": ").ok_or("a line has a mode and a budget")?;
+    let (limit, gens) = line
+        .split_once(": ")
+        .ok_or("a line has a mode and a budget")?;
     let (mode, budget) = limit.split_once(' ').ok_or("a line has a budget")?;
     let mode = match mode {
         "left" => Mode::Left,

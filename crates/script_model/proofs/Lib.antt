@@ -1,0 +1,5 @@
+pub mod OneAnswer
+pub mod OrderTests
+pub mod Rows
+pub mod Statuses
+pub mod Trees

@@ -1,6 +1,7 @@
 pub mod ExprRules
 pub mod Finders
 pub mod Firsts
+pub mod Leaves
 pub mod Loops
 pub mod OneOutcome
 pub mod PartRules

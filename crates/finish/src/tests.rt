@@ -252,7 +252,8 @@ fn lists_within_the_degree(rt: HostRuntime) -> Result<(), Fail> {
         basis: Vec::from_array(alloc, [x, z]).map_err(AllocError::from)?,
         outcome: Outcome::Finished,
     };
-    match counted::<Brand>(alloc, &ring, &journal, Blank::new(1)) {
+    let blank = Blank::new(1);
+    match counted::<Brand>(alloc, &ring, &journal, blank) {
         Ok(_) => Err("the degrees add up to 8000".into()),
         Err(ProductFault::DegreeOver) => Ok(()),
         Err(ProductFault::Memory) => Err("there is memory".into()),

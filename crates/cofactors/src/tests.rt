@@ -6,7 +6,7 @@ ghost use Rattle.monomials.specs.Monomials.{degree};
 ghost use Rattle.monomials.specs.Polynomials.{Each, IsPolynomial};
 
 use crate::check_row;
-use algebra::{Algebra, Relations};
+use algebra::{Algebra, ProductFault, Relations};
 use gpoly::{GPoly, Term};
 use gproduct::{Steps, Table};
 use monomials::{Block, Expo, Order};
@@ -124,7 +124,8 @@ fn holds(
     if row.entries.len() != gens.len() {
         return Err("a row has an entry for each generator".into());
     }
-    counted::<Brand>(alloc, algebra, &gens, &row, &element, Blank::new(1))
+    let holds = counted::<Brand>(alloc, algebra, &gens, &row, &element, Blank::new(1))?;
+    Ok(holds)
 }
 
 // The same, with a counter on the blank.
@@ -135,7 +136,7 @@ fn counted<L: Ledger>(
     row: &Row,
     element: &GPoly,
     blank: Blank,
-) -> Result<bool, Fail>
+) -> Result<bool, ProductFault>
     requires generators { Each (IsPolynomial algebra.now.p algebra.now.order) gens.now }
     requires entries { Each (IsPolynomial algebra.now.p algebra.now.order) row.now }
     requires element { IsPolynomial algebra.now.p algebra.now.order element.now }
@@ -147,5 +148,40 @@ fn counted<L: Ledger>(
     let table = Table::new(alloc, algebra)?;
     let mut seat = table.seat(alloc)?;
     let mut steps = Steps::<L>::start(blank);
-    Ok(check_row(alloc, &mut seat, gens, row, element, &mut steps)?)
+    check_row(alloc, &mut seat, gens, row, element, &mut steps)
+}
+
+// The monomial x^3000.
+fn high(alloc: Global, algebra: &Algebra) -> Result<GPoly, Fail>
+    requires { algebra.now.order.vars ≡ 3 }
+    ensures { IfOk result (λ f. IsPolynomial algebra.now.p algebra.now.order f) }
+{
+    let mono = Expo::of(&[3000, 0, 0]);
+    if mono.degree() > 4095 {
+        return Err("the degree is 3000".into());
+    }
+    let power = GPoly::from_terms(
+        alloc,
+        algebra.field(),
+        algebra.order(),
+        &[Term { coef: 1, mono }],
+    )?;
+    Ok(power)
+}
+
+// The entry x^3000 over the generator x^3000: their degrees add up to 6000.
+#[test]
+fn rows_within_the_degree(rt: HostRuntime) -> Result<(), Fail> {
+    let alloc = rt.alloc();
+    let algebra = algebra(alloc, "0:000")?;
+    let f = high(alloc, &algebra)?;
+    let gens = Vec::from_array(alloc, [high(alloc, &algebra)?]).map_err(AllocError::from)?;
+    let entries = Vec::from_array(alloc, [high(alloc, &algebra)?]).map_err(AllocError::from)?;
+    let row = Row { entries };
+    let blank = Blank::new(1);
+    match counted::<Brand>(alloc, &algebra, &gens, &row, &f, blank) {
+        Ok(_) => Err("the degrees add up to 6000".into()),
+        Err(ProductFault::DegreeOver) => Ok(()),
+        Err(ProductFault::Memory) => Err("there is memory".into()),
+    }
 }

@@ -1,0 +1,5 @@
+use Rattle.cofactors.proofs.tests.rows_within_the_degree.Given as goal
+
+-- the ledger of the blank
+abbrev pub ghosts-counted : goal.ghosts-counted
+ghosts-counted a = record { name = a.blank.name; parts = a.blank.parts }

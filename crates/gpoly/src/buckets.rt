@@ -2,6 +2,7 @@
 
 ghost use Rattle.std.specs.Prelude.{◌≡◌, ℕ, ◌+◌, ◌^◌, ◌<◌, ◌≤◌, IfOk, OnOk, MatchOption, List, [], ◌∷◌, map, drop, length, Some, None};
 ghost use Rattle.std.specs.Result.{OnErr};
+ghost use Rattle.monomials.specs.Monomials.{degree};
 ghost use Rattle.monomials.specs.Orders.{order_cmp};
 ghost use Rattle.monomials.specs.Polynomials.{Each, HasVars, IsPolynomial, poly_add};
 ghost use Rattle.gpoly.specs.Terms.{pair_of, pairs_of, IsTermList};
@@ -59,6 +60,7 @@ impl Buckets {
         ensures lead { MatchOption result (poly_sum (order_cmp order.now.rows) field self.new ≡ [])
             (λ t. poly_sum (order_cmp order.now.rows) field self.new
             ≡ pair_of t ∷ drop 1 (poly_sum (order_cmp order.now.rows) field self.new)) }
+        ensures small { MatchOption result (Unit {0}) (λ t. degree t.mono ≤ 4095) }
     {
         self.lead(field, order)
     }
@@ -72,6 +74,7 @@ impl Buckets {
             × poly_sum (order_cmp order.now.rows) field self.new ≡ [])
             (λ t. poly_sum (order_cmp order.now.rows) field self.old
             ≡ pair_of t ∷ poly_sum (order_cmp order.now.rows) field self.new) }
+        ensures small { MatchOption result (Unit {0}) (λ t. degree t.mono ≤ 4095) }
     {
         let _p = field.p();
         let term = self.lead(field, order)?;
@@ -244,6 +247,7 @@ impl Buckets {
         ensures value { poly_sum (order_cmp order.now.rows) field self.new
             ≡ poly_sum (order_cmp order.now.rows) field self.old }
         ensures vars { MatchOption result (Unit {0}) (λ t. length t.mono ≡ order.now.vars) }
+        ensures small { MatchOption result (Unit {0}) (λ t. degree t.mono ≤ 4095) }
         ensures lead { MatchOption result (poly_sum (order_cmp order.now.rows) field self.new ≡ [])
             (λ t. IsLead field order.now self.new (pair_of t)) }
     {
@@ -264,6 +268,7 @@ impl Buckets {
         ensures value { MatchOption result (greatest_lead (order_cmp order.now.rows) None self.now ≡ None)
             (λ m. greatest_lead (order_cmp order.now.rows) None self.now ≡ Some m) }
         ensures vars { MatchOption result (Unit {0}) (λ m. length m ≡ order.now.vars) }
+        ensures small { MatchOption result (Unit {0}) (λ m. degree m ≤ 4095) }
     {
         let mut greatest = None;
         for bucket in &self.buckets {
@@ -303,8 +308,10 @@ impl Buckets {
 fn greater_lead(order: &Order, mono: Option<Expo>, bucket: &Bucket) -> Option<Expo>
     requires bucket { HasVars order.now.vars bucket.now }
     requires vars { MatchOption mono (Unit {0}) (λ m. length m ≡ order.now.vars) }
+    requires small { MatchOption mono (Unit {0}) (λ m. degree m ≤ 4095) }
     ensures value { result ≡ greater_lead (order_cmp order.now.rows) mono bucket.now }
     ensures vars { MatchOption result (Unit {0}) (λ m. length m ≡ order.now.vars) }
+    ensures small { MatchOption result (Unit {0}) (λ m. degree m ≤ 4095) }
 {
     let Some(term) = bucket.leading() else {
         return mono;
@@ -393,7 +400,8 @@ impl Bucket {
 
     // The leading term.
     fn leading(&self) -> Option<&Term>
-        ensures { MatchOption result (self.now ≡ []) (λ t. self.now ≡ pair_of t.now ∷ drop 1 self.now) }
+        ensures first { MatchOption result (self.now ≡ []) (λ t. self.now ≡ pair_of t.now ∷ drop 1 self.now) }
+        ensures small { MatchOption result (Unit {0}) (λ t. degree t.now.mono ≤ 4095) }
     {
         self.terms().first()
     }

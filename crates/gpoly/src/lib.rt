@@ -2,6 +2,7 @@
 #![tactic(auto)]
 
 ghost use Rattle.std.specs.Prelude.{◌≡◌, ◌≢◌, ℕ, ◌+◌, ◌-◌, ◌*◌, ◌%◌, ◌<◌, ◌≤◌, ◌↔◌, ◌∷◌, ◌++◌, IsTrue, IsNone, IfSome, IfOk, OnOk, [], drop, length, replicate};
+ghost use Rattle.std.specs.Result.{OnErr};
 ghost use Rattle.monomials.specs.Monomials.{Monomial, degree};
 ghost use Rattle.monomials.specs.Orders.{RowOrder, order_cmp};
 ghost use Rattle.monomials.specs.Polynomials.{Each, HasVars, HasNumbers, IsPolynomial, cons_nonzero, from_terms, poly_add, poly_sub, poly_scale, poly_degree, coefficient_at};
@@ -93,6 +94,25 @@ impl GPoly {
         Ok(GPoly { terms })
     }
 
+    /// Adds a term at the end. Where memory is wanting, the polynomial is as before.
+    pub fn push(&mut self, term: Term) -> Result<(), AllocError>
+        requires terms { IsTermList (self.old ++ pair_of term ∷ []) }
+        ensures value { OnOk result (self.new ≡ self.old ++ pair_of term ∷ []) }
+        ensures refused { OnErr result (self.new ≡ self.old) }
+    {
+        Ok(self.terms.push(term)?)
+    }
+
+    /// Adds the terms of another polynomial at the end. Where memory is wanting, the polynomial is as
+    /// before.
+    pub fn append(&mut self, other: &GPoly) -> Result<(), AllocError>
+        requires terms { IsTermList (self.old ++ other.now) }
+        ensures value { OnOk result (self.new ≡ self.old ++ other.now) }
+        ensures refused { OnErr result (self.new ≡ self.old) }
+    {
+        Ok(self.terms.extend_from_slice(&other.terms)?)
+    }
+
     /// The sum of two polynomials sorted by one order.
     pub fn add(
         &self,
@@ -175,6 +195,20 @@ impl GPoly {
         let mut terms = Vec::with_capacity(alloc, self.terms.len())?;
         push_multiples(&mut terms, field, k, &self.terms)?;
         Ok(GPoly { terms })
+    }
+
+    /// The multiple by a nonzero number of the field, in the memory of the polynomial. It is sorted as
+    /// the polynomial is.
+    pub fn into_multiple(self, field: Field, k: u32) -> GPoly
+        requires in_range { k < field }
+        requires not_zero { 0 < k }
+        requires numbers { HasNumbers field self }
+        ensures value { result ≡ poly_scale field k self }
+        ensures sorted { (o : RowOrder) → IsPolynomial field o self → IsPolynomial field o result }
+    {
+        let _p = field.p();
+        let terms = scaled(self.terms, field, k);
+        GPoly { terms }
     }
 
     /// The multiple whose first number is 1, and the number by which it was multiplied: the inverse

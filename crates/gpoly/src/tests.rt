@@ -224,7 +224,12 @@ fn gathers_in_buckets(rt: HostRuntime) -> Result<(), Fail> {
         mono: Expo::of(&[0, 0]),
     };
     assert_eq!(rt; sum.leading(field, &order), Some(one));
-    let poly = sum.into_poly(alloc, field, &order)?;
+    let mut poly = sum.into_poly(alloc, field, &order)?;
     assert_eq!(rt; poly.terms(), [one].as_slice());
+    poly.append(&GPoly::zero(alloc))?;
+    assert_eq!(rt; poly.terms(), [one].as_slice());
+    let mut poly = GPoly::zero(alloc);
+    poly.push(one)?;
+    assert_eq!(rt; poly.into_multiple(field, 3).terms()[0].coef, 3);
     Ok(())
 }

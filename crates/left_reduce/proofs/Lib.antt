@@ -1,7 +1,8 @@
 pub mod Divisors
+pub mod Passing
 pub mod Factors
-pub mod Found
 pub mod Made
+pub mod Working
 pub mod Falling
 pub mod Starts
 pub mod Longer

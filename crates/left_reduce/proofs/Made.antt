@@ -1,11 +1,14 @@
 -- Steps and S-polynomials, as the program makes them; and reductions, a step at a time.
-use Rattle.std.proofs.Common.{◌≡◌, ℕ, zero, suc, ◌+◌, ◌-◌, ◌*◌, ◌%◌, ◌<◌, true, false, List, [], ◌∷◌, ◌++◌, length, Some, if◌then◌else◌, sym, ap, ◌∙◌, append_assoc, append-nil, length-append, arith}
+use Rattle.std.proofs.Common.{◌≡◌, ℕ, zero, suc, ◌+◌, ◌-◌, ◌*◌, ◌%◌, ◌<◌, true, false, List, [], ◌∷◌, ◌++◌, length, Some, refl, if◌then◌else◌, sym, ap, ◌∙◌, subst, append_assoc, append-nil, length-append, arith}
+use Rattle.std.proofs.Math.Nat.{mod-eq_of_lt}
+use Rattle.std.specs.declared.cmp.Ordering.{Ordering}
 use Rattle.monomials.specs.Monomials.{Monomial, minus, lcm}
 use Rattle.monomials.specs.Orders.{RowOrder, order_cmp}
-use Rattle.monomials.specs.Polynomials.{Polynomial, IsPolynomial, poly_scale, poly_sub}
+use Rattle.monomials.specs.Polynomials.{Polynomial, Each, IsCanonical, IsPolynomial, poly_scale, poly_sub}
 use Rattle.monomials.specs.Leading.{leading_monomial, leading_coefficient}
-use Rattle.monomials.proofs.Modulo.{Same, same_refl, same_mul, same_mul_right, same_rest, same_cancel, same_none}
-use Rattle.monomials.proofs.Weights.{weigh, weigh-poly_scale}
+use Rattle.monomials.proofs.Keys.{Each-second}
+use Rattle.monomials.proofs.Modulo.{Same, same_refl, same_add, same_mul, same_mul_right, same_rest, same_cancel, same_none}
+use Rattle.monomials.proofs.Weights.{weigh, weigh-append, weigh-poly_scale, weigh-poly_add}
 use Rattle.monomials.proofs.Canonical.{same_poly}
 use Rattle.monomials.proofs.OrderLaws.{order_cmp_total, order_cmp_tied}
 use Rattle.monomials.proofs.Operations.{IsPolynomial-poly_scale}
@@ -14,8 +17,20 @@ use Rattle.word_model.specs.Conditions.{IsGAlgebra}
 use Rattle.word_model.specs.Reduction.{element, quotient, multiple, is_within, step_by, less_step, Next, Ends, Undefined, Goes, next_step, Reduced, after_step}
 use Rattle.word_model.specs.Jobs.{s_polynomial}
 use Rattle.word_model.specs.declared.records.TraceStep.{TraceStep}
-use Rattle.word_model.proofs.Reductions.{multiple-scale}
+use Rattle.word_model.proofs.Reductions.{multiple-scale, next_step-goes}
+use Rattle.word_model.proofs.LeastNumbers.{IsFirstDivisor}
+use Rattle.word_model.proofs.Multiples.{less_step-sorted, step-cancels}
+use Rattle.word_model.proofs.Targets.{IsBelow}
 use Rattle.left_reduce.specs.Steps.{after_steps}
+
+-- the part behind some terms is canonical
+IsCanonical-second : (cmp : Monomial → Monomial → Ordering) (p : ℕ) (f r : Polynomial) → IsCanonical cmp p (f ++ r) → IsCanonical cmp p r
+IsCanonical-second cmp p [] r h = h
+IsCanonical-second cmp p (t ∷ f) r h = IsCanonical-second cmp p f r h.3
+
+-- and sorted
+pub IsPolynomial-second : (p : ℕ) (order : RowOrder) (f r : Polynomial) → IsPolynomial p order (f ++ r) → IsPolynomial p order r
+IsPolynomial-second p order f r h = record { canonical = IsCanonical-second (order_cmp order.rows) p f r h.canonical; vars = Each-second _ f r h.vars }
 
 module _ (A : Algebra) (ok : IsGAlgebra A) where
   -- c times 1 m g, subtracted from h
@@ -57,6 +72,42 @@ module _ (A : Algebra) (ok : IsGAlgebra A) where
       less_multiple first g (minus l (leading_monomial g)) k k' second (ap length (sym is_b) ∙ vars) g_is k_is second_is
       ∙ ap (λ f. poly_sub (order_cmp A.order.rows) A.p f (multiple A k' (minus l (leading_monomial g)) g)) first_is
 
+  -- the step at a term leaves the terms above it as they are
+  module _ (G : List Polynomial) (elements : Each (IsPolynomial A.p A.order) G) where
+    less_step-behind : (f : Polynomial) (t : ℕ × Monomial) (rest : Polynomial) (i : ℕ) → IsPolynomial A.p A.order (f ++ t ∷ rest)
+        → IsPolynomial A.p A.order (t ∷ rest) → IsFirstDivisor G t.1 i
+        → less_step A G (f ++ t ∷ rest) (step_by A t i (element G i)) ≡ f ++ less_step A G (t ∷ rest) (step_by A t i (element G i))
+    less_step-behind f t rest i whole behind divisor =
+        let s : TraceStep = step_by A t i (element G i) in
+        let m : Polynomial = poly_scale A.p (A.p - 1) (multiple A s.coef s.mono (element G i)) in
+        let there : (r : Polynomial) × (less_step A G (f ++ t ∷ rest) s ≡ f ++ r) × IsBelow A t.1 r = step-cancels A ok G elements f t rest whole i divisor in
+        let r : Polynomial = there.0 in
+        let here : Polynomial = less_step A G (t ∷ rest) s in
+        let pos : 0 < A.p = (let more : 1 < A.p = ok.field.more in omega arith) in
+        let cmp : Monomial → Monomial → Ordering = order_cmp A.order.rows in
+        let r_is : IsCanonical cmp A.p r =
+        IsCanonical-second cmp A.p f r (subst (IsCanonical cmp A.p) there.1 (less_step-sorted A ok G (f ++ t ∷ rest) s whole).canonical) in
+        let same : r ≡ here =
+        same_poly cmp (order_cmp_total A.order.rows) (order_cmp_tied A.order.rows) A.p r here r_is (less_step-sorted A ok G (t ∷ rest) s behind).canonical
+        (λ φ.
+        let assoc : (weigh φ f + weigh φ (t ∷ rest)) + weigh φ m ≡ weigh φ f + (weigh φ (t ∷ rest) + weigh φ m) = omega arith in
+        same_cancel A.p (weigh φ f) (weigh φ r) (weigh φ here) pos
+        (same_refl A.p _ _ (sym (weigh-append φ f r) ∙ ap (weigh φ) (sym there.1))
+        ∙ weigh-poly_add cmp (order_cmp_tied A.order.rows) A.p φ (f ++ t ∷ rest) m
+        ∙ same_refl A.p _ _ (ap (λ x. x + weigh φ m) (weigh-append φ f (t ∷ rest)) ∙ assoc)
+        ∙ sym (same_add A.p (weigh φ f) (weigh φ f) _ _ refl (weigh-poly_add cmp (order_cmp_tied A.order.rows) A.p φ (t ∷ rest) m)))) in
+        there.1 ∙ ap (λ r. f ++ r) same
+
+    -- and so what is added to all is added to the rest
+    pub step-behind : (f : Polynomial) (t : ℕ × Monomial) (rest : Polynomial) (i : ℕ) (s : TraceStep) (left behind : Polynomial)
+        → IsPolynomial A.p A.order (f ++ t ∷ rest) → IsPolynomial A.p A.order (t ∷ rest) → IsFirstDivisor G t.1 i
+        → next_step A G (f ++ t ∷ rest) (Some (t, i)) ≡ Goes s left → next_step A G (t ∷ rest) (Some (t, i)) ≡ Goes s behind
+        → f ++ behind ≡ left
+    step-behind f t rest i s left behind whole_is behind_is divisor e d =
+        let all = next_step-goes A G (f ++ t ∷ rest) t i s left e in
+        let part = next_step-goes A G (t ∷ rest) t i s behind d in
+        ap (λ r. f ++ r) (sym part.2) ∙ sym (less_step-behind f t rest i whole_is behind_is divisor) ∙ all.2
+
 -- ---- minus a multiple
 
 -- minus c, modulo p
@@ -75,6 +126,12 @@ minus_number (suc q) c w pos less =
         let less : suc q - 1 ≡ q = omega arith in
         let sum : c * w + d * w ≡ w + q * w = omega (arith, ap (λ x. x * w) e) in
         sum ∙ ap (λ n. w + n * w) (sym less)
+
+-- minus c is not zero where c is not
+pub minus-positive : (p c : ℕ) → 0 < c → c < p → 0 < (p - c) % p
+minus-positive p c some less =
+    let below : p - c < p = omega arith in
+    subst (λ x. 0 < x) (sym (mod-eq_of_lt below)) (omega arith)
 
 -- the multiple by minus c is minus the multiple by c
 pub minus_multiple : (p c : ℕ) (order : RowOrder) (g : Polynomial) → 0 < p → c < p → IsPolynomial p order g

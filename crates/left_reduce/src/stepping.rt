@@ -1,13 +1,13 @@
 //! The steps of reductions.
 
 ghost use Rattle.std.specs.Prelude.{◌≡◌, ◌+◌, ◌<◌, ◌≤◌, IfOk, OnOk, length, Some};
-ghost use Rattle.monomials.specs.Polynomials.{Each, IsPolynomial};
+ghost use Rattle.monomials.specs.Polynomials.{Polynomial, Each, IsPolynomial};
 ghost use Rattle.word_model.specs.Reduction.{first_divisor, next_step};
 ghost use Rattle.gproduct.specs.Seats.{Keeps};
-ghost use Rattle.left_reduce.specs.Steps.{target_of, next_of, products_of, after_steps, reduction_by};
+ghost use Rattle.left_reduce.specs.Steps.{target_of, next_of, IsSorted, products_of, after_steps, reduction_by};
 
 use crate::multiples::multiple;
-use crate::targets::{Aim, Target};
+use crate::targets::{Aim, Target, Work};
 use algebra::ProductFault;
 use gpoly::GPoly;
 use gproduct::{Steps, TableSeat};
@@ -16,7 +16,7 @@ use std::alloc::{AllocError, Global};
 use std::marker::Model;
 use std::sync::ledger::Ledger;
 
-// A step and what it leaves, or that its product has too high a degree.
+// A step and what it adds, or that its product has too high a degree.
 #[derive(Drop)]
 pub(crate) enum Next {
     Step(TraceStep, GPoly),
@@ -60,16 +60,20 @@ pub(crate) fn all_steps<B: Elements, L: Ledger>(
     ensures algebra { seat.new.algebra ≡ seat.old.algebra }
     ensures kept { Keeps seat.old seat.new }
 {
-    let _n = seat.algebra().n();
+    let alg = seat.algebra();
+    let _n = alg.n();
+    let field = alg.field();
+    let order = alg.order();
     let mut trace = trace;
-    let mut rest = h;
-    while let Some(target) = aim.target(basis, &rest) {
-        match next_step(alloc, seat, basis, &rest, &target, steps)? {
-            Next::Step(step, left) => {
+    let mut work = Work::new(alloc, field, order, h)?;
+    while let Some(target) = work.target(field, order, basis, aim)? {
+        match next_step(alloc, seat, basis, &target, steps)? {
+            Next::Step(step, multiple) => {
+                work.add(alloc, field, order, multiple)?;
                 trace.push(step)?;
-                rest = left;
             }
             Next::Over => {
+                let rest = work.into_poly(alloc, field, order)?;
                 return Ok(Stepped {
                     trace,
                     rest,
@@ -78,6 +82,7 @@ pub(crate) fn all_steps<B: Elements, L: Ledger>(
             }
         }
     }
+    let rest = work.into_poly(alloc, field, order)?;
     Ok(Stepped {
         trace,
         rest,
@@ -85,23 +90,24 @@ pub(crate) fn all_steps<B: Elements, L: Ledger>(
     })
 }
 
-// The step of `h` at a target: the multiple of the element whose leading term is the target's is
-// subtracted.
+// The step at a target, of any polynomial: the multiple of the element whose leading term is the
+// target's is subtracted.
 fn next_step<B: Elements, L: Ledger>(
     alloc: Global,
     seat: &mut TableSeat,
     basis: &B,
-    h: &GPoly,
     target: &Target,
     steps: &mut Steps<L>,
 ) -> Result<Next, AllocError>
     requires sorted { Each (IsPolynomial seat.old.algebra.p seat.old.algebra.order) (B.elements basis.now) }
-    requires h_sorted { IsPolynomial seat.old.algebra.p seat.old.algebra.order h.now }
     requires vars { length target.now.term.mono ≡ seat.old.algebra.order.vars }
     requires in_range { target.now.term.coef < seat.old.algebra.p }
+    requires not_zero { 0 < target.now.term.coef }
     requires divisor { first_divisor (B.elements basis.now) target.now.term.mono ≡ Some target.now.index }
-    ensures value { IfOk result (λ n.
-        next_step seat.old.algebra (B.elements basis.now) h.now (Some (target_of target.now)) ≡ next_of n) }
+    ensures value { IfOk result (λ n. (h : Polynomial) →
+        next_step seat.old.algebra (B.elements basis.now) h (Some (target_of target.now))
+        ≡ next_of seat.old.algebra n h) }
+    ensures sorted { IfOk result (λ n. IsSorted seat.old.algebra n) }
     ensures counted { IfOk result (λ n. steps.new ≡ steps.old + products_of n) }
     ensures algebra { seat.new.algebra ≡ seat.old.algebra }
     ensures kept { Keeps seat.old seat.new }
@@ -117,11 +123,11 @@ fn next_step<B: Elements, L: Ledger>(
         Err(ProductFault::Memory) => return Err(AllocError),
     };
     let coef = field.div(target.term.coef, product.lead().coef);
-    let left = h.add_multiple(alloc, field, alg.order(), field.neg(coef), &product)?;
+    let multiple = product.into_multiple(field, field.neg(coef));
     let step = TraceStep {
         coef,
         mono,
         index: target.index,
     };
-    Ok(Next::Step(step, left))
+    Ok(Next::Step(step, multiple))
 }

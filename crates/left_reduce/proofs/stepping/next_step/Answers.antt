@@ -1,14 +1,15 @@
 use Rattle.std.proofs.Common.{◌≡◌, ℕ, ◌-◌, ◌%◌, ◌<◌, arith, length, true, sym, ap, ◌∙◌, subst, subst₂}
 use Rattle.monomials.specs.Monomials.{minus, divides}
-use Rattle.monomials.specs.Orders.{RowOrder, order_cmp}
-use Rattle.monomials.specs.Polynomials.{IsPolynomial, poly_add, poly_scale, poly_sub}
+use Rattle.monomials.specs.Orders.{order_cmp}
+use Rattle.monomials.specs.Polynomials.{HasNumbers, IsPolynomial, poly_add, poly_scale, poly_sub}
+use Rattle.monomials.proofs.Operations.{HasNumbers-polynomial}
 use Rattle.monomials.specs.Leading.{leading_monomial, leading_coefficient}
 use Rattle.gpoly.specs.Terms.{pair_of}
 use Rattle.word_model.specs.Words.{Algebra}
 use Rattle.word_model.specs.Conditions.{IsGAlgebra}
 use Rattle.word_model.specs.Reduction.{element, quotient, multiple, is_within, Goes}
 use Rattle.left_reduce.proofs.Factors.{HasDivisor, has_divisor, leading-below}
-use Rattle.left_reduce.proofs.Made.{step-made, minus_multiple}
+use Rattle.left_reduce.proofs.Made.{step-made, minus_multiple, minus-positive}
 use Rattle.left_reduce.proofs.stepping.next_step.Given as given
 use Rattle.left_reduce.proofs.stepping.next_step.Goals as goal
 use Rattle.left_reduce.proofs.stepping.next_step.Goals.{After-field-field, After-lead, After-minus-mono, In-Ok}
@@ -84,35 +85,48 @@ div-coef-requires-clause-b_in_range g c =
     let below : leading_coefficient c.in-Ok.product < A.p = leading-below (order_cmp A.order.rows) A.p c.in-Ok.product c.in-Ok.ensures.sorted.canonical c.in-Ok.ensures.nonzero in
     subst₂ (λ (a b : ℕ). a < b) (sym c.lead-2.ensures.coef) (sym (field_is g (goal.at.div-coef-requires-clause-b_in_range g c).After-field-field)) below
 
-pub add_multiple-requires-clause-other_sorted : goal.add_multiple-requires-clause-other_sorted
-add_multiple-requires-clause-other_sorted g c =
-    let P : ℕ → RowOrder → Type 0 = λ p o. IsPolynomial p o c.in-Ok.product in
-    let order_is : c.order.result.now ≡ c.args.seat.now.algebra.order = c.order.ensures ∙ ap (λ (a : Algebra). a.order) c.algebra-alg.ensures in
-    subst₂ P (sym (field_is g (goal.at.add_multiple-requires-clause-other_sorted g c).After-field-field)) (sym order_is) c.in-Ok.ensures.sorted
+pub into_multiple-multiple-requires-clause-not_zero : goal.into_multiple-multiple-requires-clause-not_zero
+into_multiple-multiple-requires-clause-not_zero g c =
+    let field = c.field-field.result in
+    let coef = c.div-coef.result in
+    subst (λ x. 0 < x) (sym c.neg.ensures.value) (minus-positive field coef (c.div-coef.ensures.not_zero c.requires.not_zero) c.div-coef.ensures.in_range)
+
+pub into_multiple-multiple-requires-clause-numbers : goal.into_multiple-multiple-requires-clause-numbers
+into_multiple-multiple-requires-clause-numbers g c =
+    let A : Algebra = c.args.seat.now.algebra in
+    subst (λ p. HasNumbers p c.in-Ok.product) (sym (field_is g (goal.at.into_multiple-multiple-requires-clause-numbers g c).After-field-field))
+    (HasNumbers-polynomial A.p A.order c.in-Ok.product c.in-Ok.ensures.sorted)
+
+pub returns-clause-sorted : goal.returns-clause-sorted
+returns-clause-sorted g c =
+    let A : Algebra = c.args.seat.now.algebra in
+    let p_is : c.field-field.result ≡ A.p = field_is g (goal.at.returns-clause-sorted g c).After-field-field in
+    subst (λ p. IsPolynomial p A.order c.into_multiple-multiple.result) p_is
+    (c.into_multiple-multiple.ensures.sorted A.order (subst (λ p. IsPolynomial p A.order c.in-Ok.product) (sym p_is) c.in-Ok.ensures.sorted))
 
 pub returns-clause-value : goal.returns-clause-value
-returns-clause-value g c =
+returns-clause-value g c h =
     let at = goal.at.returns-clause-value g c in
     let A : Algebra = c.args.seat.now.algebra in
     let ok : IsGAlgebra A = subst IsGAlgebra c.algebra-alg.ensures c.n-n.ensures.accepted in
     let t = c.args.target.now in
-    let h = c.args.h.now in
     let G = g.B.Elements.elements c.args.basis.now in
     let d = divisor g at.After-field-field in
     let mono = c.minus-mono.result in
     let coef = c.div-coef.result in
     let product = c.in-Ok.product in
     let p_is : c.field-field.result ≡ A.p = field_is g at.After-field-field in
-    let order_is : c.order.result.now ≡ A.order = c.order.ensures ∙ ap (λ (a : Algebra). a.order) c.algebra-alg.ensures in
     let within : is_within mono (element G t.index) ≡ true = ap (is_within mono) (sym c.at-element.ensures) ∙ c.in-Ok.ensures.within in
     let number : coef ≡ quotient A.p t.term.coef (leading_coefficient product) =
     c.div-coef.ensures.value ∙ (λ j. quotient (p_is j) t.term.coef (c.lead-2.ensures.coef j)) in
     let less : coef < A.p = subst (λ p. coef < p) p_is c.div-coef.ensures.in_range in
     let negated : c.neg.result ≡ (A.p - coef) % A.p = c.neg.ensures.value ∙ ap (λ p. (p - coef) % p) p_is in
-    let left : c.in_ok-left.left ≡ poly_sub (order_cmp A.order.rows) A.p h (poly_scale A.p coef product) =
-    c.in_ok-left.ensures.value
-    ∙ (λ j. poly_add (order_cmp (order_is j).rows) (p_is j) h (poly_scale (p_is j) (negated j) product))
-    ∙ ap (poly_add (order_cmp A.order.rows) A.p h) (minus_multiple A.p coef A.order product (omega (arith, less)) less c.in-Ok.ensures.sorted) in
+    let multiple_is : c.into_multiple-multiple.result ≡ poly_scale A.p (A.p - 1) (poly_scale A.p coef product) =
+    c.into_multiple-multiple.ensures.value
+    ∙ (λ j. poly_scale (p_is j) (negated j) product)
+    ∙ minus_multiple A.p coef A.order product (omega (arith, less)) less c.in-Ok.ensures.sorted in
+    let left : poly_add (order_cmp A.order.rows) A.p h c.into_multiple-multiple.result ≡ poly_sub (order_cmp A.order.rows) A.p h (poly_scale A.p coef product) =
+    ap (poly_add (order_cmp A.order.rows) A.p h) multiple_is in
     step-made A ok G h (pair_of t.term) t.index mono coef product d.is (mono_vars g at.After-minus-mono) (mono_is g at.After-minus-mono) within
     (product_is g at.In-Ok) number
     ∙ ap (Goes (record { coef = coef; mono = mono; index = t.index })) (sym left)

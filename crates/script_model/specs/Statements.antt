@@ -270,6 +270,9 @@ module _ (bytes : List ℕ) (budget : ℕ) (E : Environment) where
   abbrev pub declared : Text → (Ring → Outcome Value) → Outcome Done
   declared name v = declared_value name v >>= λ w. silent (with_value E name w)
 
+  abbrev pub any_value : Expr → Ring → Outcome Value
+  any_value e R = value R e >>= not_ring
+
   abbrev pub by_value : Value → (Value → Outcome Value) → Ring → Option tree.Value → Outcome Value
   by_value start check R None = Ok start
   by_value start check R (Some v) = value R v.expr >>= check
@@ -296,14 +299,41 @@ module _ (bytes : List ℕ) (budget : ℕ) (E : Environment) where
   options [] = silent E
   options (t ∷ ts) = if is_option t then options ts else Err (refused.Name (text_of bytes t))
 
+  -- a ring of this name, which is current then
+  abbrev pub ring_made : Text → ℕ → Vars → Order → Outcome Done
+  ring_made name p variables order = new_ring bytes p (names_of bytes variables) order >>= λ R. silent (newest_current E name R)
+
+  -- the ring that nc_algebra(e, f) makes of the current one
+  abbrev pub new_algebra : Expr → Expr → Outcome Ring
+  new_algebra e f = current >>= λ R. value R e >>= λ v. value R f >>= λ w. nc_ring R v w
+
+  abbrev pub algebra_made : Text → Expr → Expr → Outcome Done
+  algebra_made name e f = new_algebra e f >>= λ Q. silent (with_ring E name Q)
+
+  -- the values in the place of the value of this name
+  abbrev pub assigned_value : Text → List Expr → Outcome Value
+  assigned_value name es = current >>= λ R. look_up E R name >>= known >>= λ old. values R es >>= in_place_of old
+
+  abbrev pub assigned : Text → List Expr → Outcome Done
+  assigned name es = assigned_value name es >>= λ new. silent (with_value E name new)
+
+  -- the matrix of this name with the entry (i, j)
+  abbrev pub entry_value : Text → ℕ → ℕ → Expr → Outcome Value
+  entry_value name i j e =
+      current >>= λ R. look_up E R name >>= known >>= matrix_rows_of >>= (λ rows. in_matrix rows i j) >>= λ rows.
+      value R e >>= poly_of >>= λ f. Ok (Matrix (with_entry rows i j f))
+
+  abbrev pub entry_assigned : Text → ℕ → ℕ → Expr → Outcome Done
+  entry_assigned name i j e = entry_value name i j e >>= λ v. silent (with_value E name v)
+
   unfoldable pub done_by : Statement → Outcome Done
   done_by (statement.Empty semicolon) = silent E
   done_by (statement.Ring keyword name equals characteristic comma variables second_comma order semicolon) =
-      new_ring bytes (number bytes characteristic) (names_of bytes variables) order >>= λ R. silent (newest_current E (text_of bytes name) R)
+      ring_made (text_of bytes name) (number bytes characteristic) variables order
   done_by (statement.SetRing keyword name semicolon) = set_ring E (text_of bytes name) (find (text_of bytes name) E.ring_names)
   done_by (statement.NcAlgebra keyword name equals nc opening both closing semicolon) =
-      current >>= λ R. value R both.first >>= λ v. value R both.second >>= λ w. nc_ring R v w >>= λ Q. silent (with_ring E (text_of bytes name) Q)
-  done_by (statement.Def keyword name equals e semicolon) = declared (text_of bytes name) (λ R. value R e >>= not_ring)
+      algebra_made (text_of bytes name) both.first both.second
+  done_by (statement.Def keyword name equals e semicolon) = declared (text_of bytes name) (any_value e)
   done_by (statement.Poly keyword name v semicolon) = declared (text_of bytes name) (λ R. by_value (Poly []) as_poly R v)
   done_by (statement.Ideal keyword name v semicolon) = declared (text_of bytes name) (λ R. ideal_values R v)
   done_by (statement.Module keyword name v semicolon) = declared (text_of bytes name) (λ R. by_value (Module []) as_module R v)
@@ -312,9 +342,7 @@ module _ (bytes : List ℕ) (budget : ℕ) (E : Environment) where
   done_by (statement.Option keyword names semicolon) = options (tokens_of names.list)
   done_by (statement.Short keyword equals number semicolon) = silent E
   done_by (statement.Quit keyword semicolon) = Ok Quits
-  done_by (statement.Assign name equals list semicolon) =
-      current >>= λ R. look_up E R (text_of bytes name) >>= known >>= λ old. values R (exprs_of list) >>= in_place_of old >>= λ new. silent (with_value E (text_of bytes name) new)
+  done_by (statement.Assign name equals list semicolon) = assigned (text_of bytes name) (exprs_of list)
   done_by (statement.AssignEntry name opening i comma j closing equals e semicolon) =
-      current >>= λ R. look_up E R (text_of bytes name) >>= known >>= matrix_rows_of >>= (λ rows. in_matrix rows (number bytes i) (number bytes j)) >>= λ rows.
-      value R e >>= poly_of >>= λ f. silent (with_value E (text_of bytes name) (Matrix (with_entry rows (number bytes i) (number bytes j) f)))
+      entry_assigned (text_of bytes name) (number bytes i) (number bytes j) e
   done_by (statement.Print e semicolon) = print e (here E)

@@ -1,0 +1,8 @@
+//! How scripts make rings: by the statement `ring`, and by `nc_algebra` over a ring.
+#![tactic(auto)]
+
+mod commuting;
+mod relations;
+
+pub use commuting::new_ring;
+pub use relations::nc_ring;

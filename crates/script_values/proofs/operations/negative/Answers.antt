@@ -1,0 +1,9 @@
+use Rattle.std.proofs.Common.{sym, subst}
+use Rattle.monomials.specs.Polynomials.{HasNumbers}
+use Rattle.monomials.proofs.Operations.{HasNumbers-polynomial}
+use Rattle.script_values.proofs.operations.negative.Goals as goal
+
+pub scale-requires-clause-numbers : goal.scale-requires-clause-numbers
+scale-requires-clause-numbers c =
+    let A = c.args.algebra.now in
+    subst (λ p. HasNumbers p c.args.f.now) (sym c.field-field.ensures) (HasNumbers-polynomial A.p A.order c.args.f.now c.requires)

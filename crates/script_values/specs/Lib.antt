@@ -1,0 +1,5 @@
+pub mod Gives
+pub mod Values
+pub mod Kept
+pub mod KeptEnvironment
+pub mod Prepended

@@ -1,8 +1,8 @@
 -- The relations of polynomial rings.
-use Rattle.std.proofs.Common.{◌≡◌, ℕ, zero, suc, ◌+◌, ◌-◌, ◌*◌, ◌/◌, ◌<◌, ◌≤◌, List, [], ◌∷◌, ◌++◌, ◌==◌, nat_lt, get_or, slice_get, unwrap_or, replicate, None, Some, Option, if◌then◌else◌, refl, sym, ap, ◌∙◌, arith}
+use Rattle.std.proofs.Common.{◌≡◌, ℕ, zero, suc, ◌+◌, ◌-◌, ◌*◌, ◌/◌, ◌<◌, ◌≤◌, [], ◌∷◌, ◌++◌, ◌==◌, nat_lt, get_or, slice_get, unwrap_or, replicate, None, Some, Option, if◌then◌else◌, refl, ap, ◌∙◌, arith}
 use Rattle.monomials.specs.Polynomials.{Polynomial, Each, poly_degree}
-use Rattle.word_model.specs.Words.{Algebra, WordSum, pair_index, c_of, d_of, sorted_word, word_value}
-use Rattle.word_model.specs.Conditions.{Fault, is_below, pair_fault, triple_fault, times_words, overlap, rest_fault, relations_fault}
+use Rattle.word_model.specs.Words.{Algebra, pair_index, c_of, d_of, sorted_word, word_value}
+use Rattle.word_model.specs.Conditions.{Fault, is_below, times_words, overlap, rest_fault, relations_fault}
 use Rattle.word_model.specs.Conditions.Fault.{Coefficient, Profile}
 use Rattle.word_model.proofs.Faults.{NoPairFault, NoTripleFault, relations_fault-none}
 use Rattle.algebra.proofs.Pairs.{pair_index-below}

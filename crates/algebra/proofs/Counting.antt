@@ -1,5 +1,6 @@
 -- The monomial of a word, by counting its letters one after another.
-use Rattle.std.proofs.Common.{◌≡◌, ◌≢◌, ℕ, zero, suc, ◌+◌, ◌-◌, ◌<◌, ◌≤◌, ◌⊎◌, inl, inr, cond, nat_eq, List, [], ◌∷◌, ◌++◌, length, take, set, get_or, refl, sym, ap, ◌∙◌, arith, get_or-set_same, get_or-set_other}
+use Rattle.std.proofs.Common.{◌≡◌, ◌≢◌, ℕ, zero, suc, ◌+◌, ◌-◌, ◌<◌, ◌≤◌, ◌⊎◌, inl, inr, List, [], ◌∷◌, length, take, set, get_or, refl, sym, ap, ◌∙◌, arith, get_or-set_same, get_or-set_other}
+use Rattle.std.proofs.lemmas.Bool.{cases_eq}
 use Rattle.std.proofs.lemmas.List.{take_more}
 use Rattle.word_model.specs.Words.{Word, count_of, counts_from}
 use Rattle.word_model.proofs.Letters.{count_of-append, count_of-same, count_of-other}
@@ -8,15 +9,12 @@ use Rattle.word_model.proofs.Letters.{count_of-append, count_of-same, count_of-o
 abbrev pub IsCount : List ℕ → Word → Type 0
 IsCount counts w = (v : ℕ) → v < length counts → get_or counts v 0 ≡ count_of (suc v) w
 
-same_or_other : (a b : ℕ) → (a ≡ b) ⊎ (a ≢ b)
-same_or_other a b = grind arith
-
 -- one letter more
 pub count_more : (counts : List ℕ) (w : Word) (i x : ℕ) → i < length w → x ≡ get_or w i 0 → 1 ≤ x → x - 1 < length counts
     → ((v : ℕ) → v < length counts → get_or counts v 0 ≡ count_of (suc v) (take i w))
     → (v : ℕ) → v < length counts → get_or (set counts (x - 1) (get_or counts (x - 1) 0 + 1)) v 0 ≡ count_of (suc v) (take (i + 1) w)
 count_more counts w i x inside is some few h v less =
-    by (same_or_other v (x - 1)) ∙ sym (ap (count_of (suc v)) (take_more w i 0 inside) ∙ count_of-append (suc v) (take i w) (get_or w i 0 ∷ []) ∙ ap (λ y. count_of (suc v) (take i w) + count_of (suc v) (y ∷ [])) (sym is))
+    by (cases_eq v (x - 1)) ∙ sym (ap (count_of (suc v)) (take_more w i 0 inside) ∙ count_of-append (suc v) (take i w) (get_or w i 0 ∷ []) ∙ ap (λ y. count_of (suc v) (take i w) + count_of (suc v) (y ∷ [])) (sym is))
   where
     by : (v ≡ x - 1) ⊎ (v ≢ x - 1) → get_or (set counts (x - 1) (get_or counts (x - 1) 0 + 1)) v 0 ≡ count_of (suc v) (take i w) + count_of (suc v) (x ∷ [])
     by (inl same) =
@@ -32,7 +30,7 @@ count_more counts w i x inside is some few h v less =
 -- no count is above the number of letters
 pub small_more : (counts : List ℕ) (k n : ℕ) → k < length counts → ((v : ℕ) → get_or counts v 0 ≤ n)
     → (v : ℕ) → get_or (set counts k (get_or counts k 0 + 1)) v 0 ≤ n + 1
-small_more counts k n few h v = by (same_or_other v k)
+small_more counts k n few h v = by (cases_eq v k)
   where
     by : (v ≡ k) ⊎ (v ≢ k) → get_or (set counts k (get_or counts k 0 + 1)) v 0 ≤ n + 1
     by (inl same) =

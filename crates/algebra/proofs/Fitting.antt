@@ -1,13 +1,12 @@
 -- What the terms of an algebra's polynomials are, one after another.
-use Rattle.std.proofs.Common.{◌≡◌, ◌↔◌, ℕ, zero, suc, ◌+◌, ◌-◌, ◌<◌, ◌≤◌, List, [], ◌∷◌, length, get_or, drop, refl, sym, ap, ◌∙◌, subst, arith, ℤ}
-use Rattle.std.proofs.Common.{Ordering, Less, Equal, Greater}
+use Rattle.std.proofs.Common.{◌≡◌, ◌↔◌, ℕ, zero, suc, ◌+◌, ◌-◌, ◌<◌, ◌≤◌, List, [], ◌∷◌, length, get_or, drop, sym, ap, ◌∙◌, subst, arith, ℤ}
+use Rattle.std.proofs.Common.{Greater}
 use Rattle.std.proofs.lemmas.List.{drop_more, drop_all}
-use Rattle.monomials.specs.Monomials.{Monomial}
 use Rattle.monomials.specs.Orders.{RowOrder, order_cmp}
-use Rattle.monomials.specs.Polynomials.{Polynomial, Each, HasNumbers, HasVars, IsAbove, IsCanonical, IsPolynomial}
+use Rattle.monomials.specs.Polynomials.{Polynomial, Each, HasNumbers, HasVars, IsCanonical, IsPolynomial}
 use Rattle.monomials.proofs.Operations.{HasNumbers-canonical}
 use Rattle.gpoly.specs.declared.Term.{Term}
-use Rattle.gpoly.specs.Terms.{pair_of, pairs_of, IsTermList}
+use Rattle.gpoly.specs.Terms.{pairs_of, IsTermList}
 use Rattle.algebra.specs.Inside.Falling.{IsStrictlyFalling}
 
 -- the numbers are below p, and the monomials in n variables

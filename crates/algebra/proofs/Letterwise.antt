@@ -1,13 +1,13 @@
 -- Products by letters, and by terms, as the program computes them.
-use Rattle.std.proofs.Common.{◌≡◌, ℕ, zero, suc, ◌+◌, ◌*◌, ◌<◌, ◌≤◌, List, [], ◌∷◌, ◌++◌, length, get_or, take, drop, refl, sym, ap, ◌∙◌, subst, arith, length-append}
+use Rattle.std.proofs.Common.{◌≡◌, ℕ, zero, suc, ◌+◌, ◌*◌, ◌<◌, ◌≤◌, List, [], ◌∷◌, ◌++◌, length, get_or, take, drop, refl, sym, ap, ◌∙◌, arith, length-append}
 use Rattle.std.proofs.lemmas.List.{map-append, take_more, drop_more}
-use Rattle.monomials.specs.Monomials.{Monomial, degree}
+use Rattle.monomials.specs.Monomials.{degree}
 use Rattle.monomials.specs.Orders.{order_cmp}
-use Rattle.monomials.specs.Polynomials.{Polynomial, Each, HasVars, IsPolynomial, poly_add, poly_scale, poly_degree}
-use Rattle.monomials.proofs.Keys.{Each-append, Each-weaker, EachKey-poly_scale}
+use Rattle.monomials.specs.Polynomials.{Polynomial, Each, HasVars, poly_add, poly_scale, poly_degree}
+use Rattle.monomials.proofs.Keys.{Each-append, EachKey-poly_scale}
 use Rattle.gpoly.specs.declared.Term.{Term}
 use Rattle.gpoly.specs.Terms.{pair_of, pairs_of}
-use Rattle.word_model.specs.Words.{Algebra, Word, IsWord, sorted_word, word_value, RewritesDown}
+use Rattle.word_model.specs.Words.{Algebra, Word, sorted_word, word_value, RewritesDown}
 use Rattle.word_model.specs.Products.{product, variable_polynomial, times_letters, with_letter}
 use Rattle.word_model.proofs.Letters.{Each-map, Each-both, IsWord-sorted_word, length-word_from}
 use Rattle.word_model.proofs.NormalForms.{product-variable}

@@ -1,11 +1,11 @@
 mod Places
-mod Counting
+pub mod Counting
 mod Pairs
 mod Sums
 mod Replacing
 mod Testing
 mod OverlapSums
-mod Letterwise
+pub mod Letterwise
 mod Commuting
 pub mod Fitting
 pub mod SortedAnew

@@ -1,5 +1,5 @@
 -- Accepted relations under another order: none but the condition on the order can fail.
-use Rattle.std.proofs.Common.{◌≡◌, ℕ, zero, suc, ◌+◌, ◌*◌, ◌%◌, ◌-◌, ◌<◌, ◌≤◌, ◌==◌, nat_lt, if◌then◌else◌, Bool, true, false, [], ◌∷◌, Option, None, Some, refl, sym, ap, ◌∙◌, subst, arith, le_refl}
+use Rattle.std.proofs.Common.{◌≡◌, ℕ, zero, suc, ◌+◌, ◌%◌, ◌-◌, ◌<◌, ◌≤◌, ◌==◌, nat_lt, if◌then◌else◌, Bool, true, false, Option, None, Some, refl, sym, ap, ◌∙◌, subst, arith, le_refl}
 use Rattle.std.proofs.lemmas.Bool.Decides.{nat_tests}
 use Rattle.monomials.specs.Monomials.{degree}
 use Rattle.monomials.specs.Orders.{RowOrder, order_cmp}
@@ -7,7 +7,7 @@ use Rattle.monomials.specs.Polynomials.{Polynomial, Each, from_terms, poly_degre
 use Rattle.monomials.proofs.Keys.{Each-weaker, EachKey-from_terms}
 use Rattle.gpoly.proofs.TermLists.{poly_degree_small}
 use Rattle.word_model.specs.Words.{Algebra, c_of, d_of}
-use Rattle.word_model.specs.Conditions.{Fault, IsGAlgebra, first_from, is_below, pair_fault, pairs_fault, triple_fault, triples_fault, relations_fault, rest_fault}
+use Rattle.word_model.specs.Conditions.{Fault, IsGAlgebra, first_from, is_below, pair_fault, pairs_fault, triples_fault, rest_fault}
 use Rattle.word_model.proofs.Faults.{or_else, row_fault, triples_none}
 use Rattle.algebra.specs.declared.AlgebraFault.{AlgebraFault}
 use Rattle.algebra.specs.declared.AlgebraFault.TheVariants.{Coefficient, Profile, Ordering, NonDegeneracy, Memory}

@@ -1,11 +1,10 @@
 -- The sum of words of a triple, as the program makes it.
-use Rattle.std.proofs.Common.{◌≡◌, ℕ, zero, suc, ◌+◌, ◌-◌, ◌*◌, ◌%◌, ◌<◌, ◌≤◌, List, [], ◌∷◌, ◌++◌, length, refl, sym, ap, ◌∙◌, arith, append_assoc, append-nil, length-append, mod-lt}
+use Rattle.std.proofs.Common.{◌≡◌, ℕ, ◌+◌, ◌-◌, ◌*◌, ◌%◌, ◌<◌, ◌≤◌, [], ◌∷◌, ◌++◌, length, refl, sym, ap, ◌∙◌, arith, append_assoc, append-nil, length-append, mod-lt}
 use Rattle.std.proofs.Math.Nat.{mod_self, zero-mod}
-use Rattle.monomials.specs.Monomials.{Monomial, degree}
 use Rattle.monomials.specs.Polynomials.{Polynomial, Each}
-use Rattle.monomials.proofs.Modulo.{Same, same_refl, same_mul, same_rest, same_cancel, same_none}
+use Rattle.monomials.proofs.Modulo.{Same, same_refl, same_cancel, same_none}
 use Rattle.monomials.proofs.Keys.{Each-append, Each-weaker}
-use Rattle.word_model.specs.Words.{Algebra, Word, WordSum, IsWord, IsSmall, sorted_word, c_of, d_of, word_value, RewritesDown}
+use Rattle.word_model.specs.Words.{Algebra, Word, WordSum, IsWord, sorted_word, d_of, word_value, RewritesDown}
 use Rattle.word_model.specs.Conditions.{times_words, overlap}
 use Rattle.word_model.proofs.Letters.{Each-map, IsWord-sorted_word, length-word_from}
 use Rattle.word_model.proofs.NormalForms.{word_weight, weigh-word_value, word_value_is_polynomial, same_weights}

@@ -1,5 +1,5 @@
 -- Places in words at which two letters descend.
-use Rattle.std.proofs.Common.{◌≡◌, ℕ, zero, suc, ◌<◌, ◌≤◌, List, [], ◌∷◌, length, set, get_or, Some, None, refl, ap, ◌∙◌, arith}
+use Rattle.std.proofs.Common.{◌≡◌, ℕ, zero, suc, ◌<◌, ◌≤◌, [], ◌∷◌, length, set, get_or, Some, None, refl, ap, ◌∙◌, arith}
 use Rattle.std.specs.List.{swap}
 use Rattle.word_model.specs.Words.{Word, behind_letter, leftmost_descent}
 use Rattle.word_model.proofs.Descents.{descent_here, descent_behind}

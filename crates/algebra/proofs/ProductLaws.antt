@@ -1,5 +1,5 @@
 -- Multiples and units of products, and rewriting in sums of words.
-use Rattle.std.proofs.Common.{◌≡◌, ◌≢◌, ℕ, zero, suc, ◌+◌, ◌*◌, ◌<◌, [], ◌∷◌, ◌++◌, length, map, replicate, refl, sym, ap, ◌∙◌, arith, append-nil}
+use Rattle.std.proofs.Common.{◌≡◌, ◌≢◌, ℕ, ◌+◌, ◌*◌, ◌<◌, [], ◌∷◌, ◌++◌, length, map, refl, sym, ap, ◌∙◌, arith, append-nil}
 use Rattle.monomials.specs.Leading.{leading_coefficient}
 use Rattle.monomials.specs.Monomials.{Monomial, one}
 use Rattle.monomials.specs.Polynomials.{Polynomial, IsPolynomial, poly_scale}
@@ -7,20 +7,15 @@ use Rattle.monomials.proofs.Modulo.{same_refl, same_add, same_mul}
 use Rattle.monomials.proofs.Weights.{weigh, weigh-append, weigh_alike, weigh_alike_on, weigh-times, weigh-scaled, weigh-poly_scale}
 use Rattle.monomials.proofs.Keys.{Each-weaker}
 use Rattle.monomials.proofs.Operations.{IsPolynomial-poly_scale}
-use Rattle.word_model.specs.Words.{Algebra, Word, WordSum, IsWord, word_from, sorted_word, rewritten, word_value}
+use Rattle.word_model.specs.Words.{Algebra, Word, WordSum, IsWord, sorted_word, rewritten, word_value}
 use Rattle.word_model.specs.Products.{product}
 use Rattle.word_model.specs.Conditions.{NonZero, IsGAlgebra}
-use Rattle.word_model.proofs.Letters.{monomial_of-sorted_word}
+use Rattle.word_model.proofs.Letters.{monomial_of-sorted_word, word_from-zeros}
 use Rattle.word_model.proofs.Descents.{descent, leftmost_descent-sorted_word}
 use Rattle.word_model.proofs.Termination.{normal_form-sorted}
 use Rattle.word_model.proofs.NormalForms.{word_weight, row_weight, weigh-word_value, weigh-product, product_is_polynomial, word_value_is_polynomial, same_weights}
 use Rattle.word_model.proofs.Confluence.{normal_form-pair}
 use Rattle.word_model.proofs.LeadingMonomials.{NonZero-below, leading_monomial-product}
-
--- the sorted word of 1 has no letter
-word_from-zeros : (i n : ℕ) → word_from i (replicate n 0) ≡ []
-word_from-zeros i zero = refl
-word_from-zeros i (suc n) = word_from-zeros (suc i) n
 
 module _ (A : Algebra) (above_one : 1 < A.p) where
   -- ---- multiples

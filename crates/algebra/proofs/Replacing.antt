@@ -1,5 +1,5 @@
 -- Rewriting a sum of words, word by word.
-use Rattle.std.proofs.Common.{◌≡◌, ℕ, zero, suc, ◌+◌, ◌*◌, ◌%◌, ◌^◌, ◌<◌, ◌≤◌, ◌⊎◌, inl, inr, List, [], ◌∷◌, ◌++◌, map, length, slice_get, unwrap_or, Some, None, refl, sym, ap, ◌∙◌, subst, arith, pow-suc, mod-lt, mul-le-mul_left, mul-le-mul_right, length-append}
+use Rattle.std.proofs.Common.{◌≡◌, ℕ, zero, suc, ◌+◌, ◌*◌, ◌%◌, ◌^◌, ◌<◌, ◌≤◌, ◌⊎◌, inl, inr, List, [], ◌∷◌, ◌++◌, length, slice_get, unwrap_or, Some, None, refl, sym, ap, ◌∙◌, subst, arith, pow-suc, mod-lt, mul-le-mul_left, mul-le-mul_right, length-append}
 use Rattle.std.proofs.Math.Nat.{pow-le-pow_right, one-le-pow}
 use Rattle.monomials.specs.Monomials.{Monomial, degree}
 use Rattle.monomials.specs.Orders.{order_cmp}
@@ -14,7 +14,7 @@ use Rattle.word_model.proofs.Letters.{Each-map, degree-monomial_of, length-count
 use Rattle.word_model.proofs.Descents.{word_of, found_descent}
 use Rattle.word_model.proofs.Termination.{measure, IsLess, normal_form-sorted}
 use Rattle.word_model.proofs.NormalForms.{word_weight, word_weight-descent, weigh-word_value, word_value_is_polynomial, same_weights}
-use Rattle.word_model.proofs.Rules.{rule_of, weigh-rewritten}
+use Rattle.word_model.proofs.Rules.{weigh-rewritten}
 use Rattle.word_model.proofs.Induction.{less_swapped, less_replaced}
 use Rattle.algebra.specs.Inside.Places.{with_swapped}
 use Rattle.algebra.specs.Inside.WordSums.{reduced, between, replacement, IsPending}

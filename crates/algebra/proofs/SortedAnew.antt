@@ -1,19 +1,19 @@
 -- Under another order the normal forms, and so products and rests, are the same polynomials, sorted by it.
-use Rattle.std.proofs.Common.{◌≡◌, ℕ, zero, suc, ◌+◌, ◌*◌, ◌-◌, ◌<◌, ◌≤◌, List, [], ◌∷◌, ◌++◌, map, length, get_or, Option, None, Some, refl, sym, ap, ◌∙◌, subst, arith, ℤ}
-use Rattle.std.specs.List.{slice_get, slice_index}
+use Rattle.std.proofs.Common.{◌≡◌, ℕ, zero, suc, ◌*◌, ◌-◌, ◌<◌, [], ◌∷◌, ◌++◌, map, length, get_or, Option, None, Some, refl, sym, ap, ◌∙◌, arith}
+use Rattle.std.specs.List.{slice_index}
 use Rattle.std.proofs.Math.ListN.{get_or-map}
 use Rattle.std.proofs.lemmas.Option.{unwrap_or-slice_get}
 use Rattle.monomials.specs.Monomials.{Monomial}
 use Rattle.monomials.specs.Orders.{RowOrder, order_cmp}
-use Rattle.monomials.specs.Polynomials.{Polynomial, IsPolynomial, from_terms, sum_over}
+use Rattle.monomials.specs.Polynomials.{Polynomial, IsPolynomial, from_terms}
 use Rattle.monomials.proofs.Canonical.{same_poly, IsCanonical-from_terms}
-use Rattle.monomials.proofs.Modulo.{Same, same_refl, same_add, same_lin, same_mul}
+use Rattle.monomials.proofs.Modulo.{Same, same_refl, same_add, same_mul}
 use Rattle.monomials.proofs.OrderLaws.{order_cmp_total, order_cmp_tied}
 use Rattle.monomials.proofs.Weights.{weigh, weigh-append, weigh_alike, weigh-map_key, weigh-times, weigh-from_terms, weigh-sum_over}
-use Rattle.word_model.specs.Words.{Algebra, Word, WordSum, c_of, d_of, pair_index, sorted_word, monomial_of, Descent, leftmost_descent, rewritten, rewriting_step, normal_form_within, normal_form, enough, word_value}
+use Rattle.word_model.specs.Words.{Algebra, Word, WordSum, c_of, d_of, pair_index, sorted_word, monomial_of, Descent, leftmost_descent, rewritten, rewriting_step, normal_form_within, normal_form, enough}
 use Rattle.word_model.specs.Conditions.{times_words, overlap, triple_rest}
 use Rattle.word_model.specs.Products.{product}
-use Rattle.word_model.proofs.NormalForms.{word_weight, weigh-word_value, row_weight, weigh-product, normal_form_is_polynomial, word_value_is_polynomial, product_is_polynomial}
+use Rattle.word_model.proofs.NormalForms.{word_weight, weigh-word_value, weigh-product, normal_form_is_polynomial, word_value_is_polynomial, product_is_polynomial}
 use Rattle.algebra.specs.Reordered.{reordered}
 
 module _ (A : Algebra) (o : RowOrder) (vars : o.vars ≡ A.order.vars) where

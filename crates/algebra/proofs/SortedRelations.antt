@@ -1,5 +1,5 @@
 -- The data of an algebra whose polynomials are sorted anew.
-use Rattle.std.proofs.Common.{◌≡◌, ℕ, ◌+◌, ◌*◌, ◌-◌, ◌<◌, List, [], ◌∷◌, ◌++◌, map, length, take, get_or, sym, ap, ◌∙◌, subst, arith}
+use Rattle.std.proofs.Common.{◌≡◌, ℕ, ◌+◌, ◌*◌, ◌-◌, ◌<◌, List, [], ◌∷◌, ◌++◌, map, length, take, get_or, sym, ap, ◌∙◌}
 use Rattle.std.proofs.lemmas.List.{take_more, map_push, length-map}
 use Rattle.monomials.specs.Orders.{RowOrder, order_cmp}
 use Rattle.monomials.specs.Polynomials.{Polynomial, Each, IsPolynomial, from_terms}

@@ -1,5 +1,5 @@
 -- What tests in order report.
-use Rattle.std.proofs.Common.{◌≡◌, ℕ, suc, ◌+◌, ◌<◌, ◌≤◌, ◌⊎◌, inl, inr, Option, None, Some, sym, ap, ◌∙◌, arith}
+use Rattle.std.proofs.Common.{◌≡◌, ℕ, ◌+◌, ◌<◌, ◌≤◌, ◌⊎◌, inl, inr, Option, None, Some, ap, ◌∙◌, arith}
 use Rattle.word_model.specs.Words.{Algebra}
 use Rattle.word_model.specs.Conditions.{Fault, first_from, pairs_fault, triples_fault, relations_fault}
 use Rattle.word_model.proofs.Faults.{or_else, first_from-found}

@@ -3,11 +3,10 @@ use Rattle.std.proofs.Common.{◌≡◌, ◌≢◌, ℕ, ◌<◌, ◌≤◌, ◌
 use Rattle.monomials.specs.Monomials.{Monomial, one, variable}
 use Rattle.monomials.specs.Polynomials.{Polynomial}
 use Rattle.word_model.specs.Words.{sorted_word}
-use Rattle.word_model.proofs.Letters.{sorted_word-variable}
+use Rattle.word_model.proofs.Letters.{sorted_word-variable, word_from-zeros}
 use Rattle.closed_forms.specs.declared.PairKind.{PairKind}
 use Rattle.closed_forms.specs.declared.PairKind.TheVariants.{Commuting, Quasi, Weyl, QWeyl, LeftLinear, RightLinear}
 use Rattle.closed_forms.specs.Kinds.{IsOfKind}
-use Rattle.closed_forms.proofs.Passing.{sorted_word-one}
 
 -- a list without elements
 pub no_element : {X : Type 0} (xs : List X) → length xs < 1 → xs ≡ []
@@ -37,7 +36,7 @@ first_monomial (t ∷ f) = t.1
 -- the monomial 1 is no variable
 one_not_variable : (n v : ℕ) → 1 ≤ v → one n ≡ variable n v → ⊥
 one_not_variable n v low e =
-    let word : [] ≡ v ∷ [] = sym (sorted_word-one 1 n) ∙ ap sorted_word e ∙ sorted_word-variable n v low in
+    let word : [] ≡ v ∷ [] = sym (word_from-zeros 1 n) ∙ ap sorted_word e ∙ sorted_word-variable n v low in
     cc
 
 -- variables differ

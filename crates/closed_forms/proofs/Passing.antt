@@ -5,9 +5,9 @@ use Rattle.monomials.specs.Monomials.{Monomial, one, variable}
 use Rattle.monomials.proofs.Keys.{Each-append}
 use Rattle.monomials.proofs.Modulo.{Same, same_refl, same_add, same_mul}
 use Rattle.monomials.proofs.Weights.{weigh}
-use Rattle.word_model.specs.Words.{Algebra, Word, IsWord, monomial_of, word_from, sorted_word, leftmost_descent, behind_letter, c_of, d_of, RewritesDown}
+use Rattle.word_model.specs.Words.{Algebra, Word, IsWord, monomial_of, sorted_word, leftmost_descent, behind_letter, c_of, d_of, RewritesDown}
 use Rattle.word_model.proofs.Descents.{descent, descent_here, descent_behind}
-use Rattle.word_model.proofs.Letters.{sorted_word-variable}
+use Rattle.word_model.proofs.Letters.{sorted_word-variable, word_from-zeros}
 use Rattle.word_model.proofs.Termination.{normal_form-sorted}
 use Rattle.word_model.proofs.NormalForms.{word_weight}
 use Rattle.word_model.proofs.Rules.{by_descent}
@@ -18,11 +18,6 @@ use Rattle.closed_forms.proofs.Shifts.{shifted, shifted_alike}
 pub power_letter : (t v : ℕ) (w : Word) → replicate t v ++ v ∷ w ≡ replicate (suc t) v ++ w
 power_letter zero v w = refl
 power_letter (suc t) v w = ap (λ r. v ∷ r) (power_letter t v w)
-
--- the word of 1 is empty
-pub sorted_word-one : (i n : ℕ) → word_from i (replicate n 0) ≡ []
-sorted_word-one i zero = refl
-sorted_word-one i (suc n) = sorted_word-one (suc i) n
 
 -- a power of a variable is a word
 pub power_is_word : (n v : ℕ) → 1 ≤ v → v ≤ n → (t : ℕ) → IsWord n (replicate t v)
@@ -106,7 +101,7 @@ module _ (A : Algebra) (downward : RewritesDown A) (i j : ℕ) (low : 1 ≤ i) (
 
   pub weyl_rule : (q delta : ℕ) → c_of A i j ≡ q → ((ψ : Monomial → ℕ) → weigh ψ (d_of A i j) ≡ delta * ψ (one A.order.vars)) → IsWeylRule q delta
   weyl_rule q delta number polynomial s t w word =
-      let empty : sorted_word (one A.order.vars) ++ w ≡ w = ap (λ r. r ++ w) (sorted_word-one 1 A.order.vars) in
+      let empty : sorted_word (one A.order.vars) ++ w ≡ w = ap (λ r. r ++ w) (word_from-zeros 1 A.order.vars) in
       let constant : weigh (λ m. weight s t (sorted_word m ++ w)) (d_of A i j) ≡ delta * weight s t w =
       polynomial (λ m. weight s t (sorted_word m ++ w)) ∙ ap (λ r. delta * weight s t r) empty in
       rewritten_xy s t w word ∙ same_refl A.p _ _ (λ k. number k * weight s t (i ∷ j ∷ w) + constant k)

@@ -8,10 +8,10 @@ use Rattle.monomials.proofs.Merge.{poly_add-nil}
 use Rattle.word_model.specs.Words.{Algebra}
 use Rattle.word_model.specs.Products.{product, in_reach}
 use Rattle.word_model.specs.Reduction.{element, multiple}
-use Rattle.word_model.specs.Jobs.{s_polynomial, pair_within, start_of}
+use Rattle.word_model.specs.Jobs.{s_polynomial, pair_within, start_of, first_cofactor, second_cofactor}
 use Rattle.word_model.specs.Machine.{Journal}
 use Rattle.word_model.specs.Finished.{FinishedList}
-use Rattle.word_model.specs.Cofactors.{Row, unit_row, first_cofactor, second_cofactor, row_value, row_sub, row_multiple, row_at, start_row, less_steps, new_row, rows_after, basis_rows, finished_rows, multiple_reaches, steps_reach, start_reaches, entries_reach, value_reaches, values_reach, tails_reach, cofactor_rows}
+use Rattle.word_model.specs.Cofactors.{Row, unit_row, row_value, row_sub, row_multiple, row_at, start_row, less_steps, new_row, rows_after, basis_rows, finished_rows, multiple_reaches, steps_reach, start_reaches, entries_reach, value_reaches, values_reach, tails_reach, cofactor_rows}
 use Rattle.word_model.specs.declared.records.Job.{Job}
 use Rattle.word_model.specs.declared.records.Job.TheVariants.{Seed, Pair, Right}
 use Rattle.word_model.specs.declared.records.Mode.{Mode}
@@ -232,7 +232,7 @@ module _ (A : Algebra) (gens G : List Polynomial) (mode : Mode) (R more : List R
   start_reaches-longer (Pair i j) h =
       let at_i : row_at (R ++ more) i ≡ row_at R i = row_at-longer R more i h.numbers.0 (omega (arith, h.numbers.1, h.numbers.2)) in
       let at_j : row_at (R ++ more) j ≡ row_at R j = row_at-longer R more j (omega (arith, h.numbers.0, h.numbers.1)) h.numbers.2 in
-      (λ k. multiple_reaches (first_cofactor G i j) (at_i k) && multiple_reaches (second_cofactor G i j) (at_j k))
+      (λ k. multiple_reaches (first_cofactor (element G i) (element G j)) (at_i k) && multiple_reaches (second_cofactor (element G i) (element G j)) (at_j k))
   start_reaches-longer (Right i v) h = refl
 
   -- the test of an entry is one of the rows that stood before it

@@ -17,7 +17,7 @@ use Rattle.word_model.specs.Elimination.{elimination_order, is_free, restricted,
 use Rattle.word_model.proofs.Letters.{Each-both}
 use Rattle.word_model.proofs.LeastNumbers.{Each-element, lead_divides-nonzero, lead_divides-divides}
 use Rattle.word_model.proofs.Divisions.{length-minus, plus-minus}
-use Rattle.word_model.proofs.Multiples.{length-leading_monomial}
+use Rattle.word_model.proofs.PairCofactors.{length-leading_monomial}
 use Rattle.word_model.proofs.Sums.{sum_weaker}
 use Rattle.word_model.proofs.MultipleWeights.{Multiple, multiple_weight, top}
 use Rattle.word_model.proofs.Settled.{IsNumber}
@@ -91,7 +91,7 @@ module _ (A : Algebra) (ok : IsGAlgebra A) (well : IsWellFounded A.order) (vars 
   divided (t ∷ f) h keys nonzero =
       let d : (g : Polynomial) × IsOneOf g F × (lead_divides g t.1 ≡ true) = r.divided (t ∷ f) h nonzero in
       let g_is : IsPolynomial A.p A.order d.0 = ideal_is A ok gens d.0 (each_one (InLeftIdeal A gens) d.0 F r.inside d.1) in
-      let lg : length (leading_monomial d.0) ≡ A.order.vars = length-leading_monomial A d.0 g_is.vars (lead_divides-nonzero d.0 t.1 d.2) in
+      let lg : length (leading_monomial d.0) ≡ A.order.vars = length-leading_monomial A.order.vars d.0 g_is.vars (lead_divides-nonzero d.0 t.1 d.2) in
       let lt : length t.1 ≡ A.order.vars = (ideal_is A ok gens (t ∷ f) h).vars.0 in
       let product_is : plus (minus t.1 (leading_monomial d.0)) (leading_monomial d.0) ≡ t.1 = plus-minus t.1 (leading_monomial d.0) (lt ∙ sym lg) (lead_divides-divides d.0 t.1 d.2) in
       let factors : Free (minus t.1 (leading_monomial d.0)) × Free (leading_monomial d.0) =
@@ -106,7 +106,7 @@ module _ (A : Algebra) (ok : IsGAlgebra A) (well : IsWellFounded A.order) (vars 
       let g : Polynomial = element few k.1 in
       let g_vars : HasVars A.order.vars g = (Each-element (IsPolynomial A.p A.order) few k.1 few_is h.0.1.0 h.0.1.1).vars in
       let nonzero : g ≢ [] = Each-element (λ f. f ≢ []) few k.1 few_nonzero h.0.1.0 h.0.1.1 in
-      (h.0, (free_factors A ok vars old is k.0 (leading_monomial g) h.0.0 (length-leading_monomial A g g_vars nonzero) h.1).0)
+      (h.0, (free_factors A ok vars old is k.0 (leading_monomial g) h.0.0 (length-leading_monomial A.order.vars g g_vars nonzero) h.1).0)
 
   pub in_free_ideal : (f : Polynomial) → InLeftIdeal A gens f → is_free A.order.vars vars f ≡ true → InIdealFreeOf A vars few f
   in_free_ideal f h free =

@@ -2,13 +2,11 @@
 use Rattle.std.proofs.Common.{◌≡◌, ℕ, zero, suc, ◌+◌, ◌-◌, ◌<◌, ◌≤◌, ◌⊎◌, inl, inr, Option, Some, None, refl, sym, ap, ◌∙◌, arith, le_refl}
 use Rattle.word_model.specs.Words.{Algebra}
 use Rattle.word_model.specs.Conditions.{Fault, pair_fault, triple_fault, first_from, pairs_fault, triples_fault, relations_fault}
+use Rattle.word_model.proofs.LeastNumbers.{here_or_later}
 
 -- the first fault, if there is one, else the second
 abbrev pub or_else : Option Fault → Option Fault → Option Fault
 or_else first next = elim first [ None ↦ next | Some e ↦ Some e ]
-
-here_or_later : (k i : ℕ) → k ≤ i → (k ≡ i) ⊎ (suc k ≤ i)
-here_or_later k i h = grind arith
 
 -- where there is no first fault, no test fails
 pub first_from-passed : (test : ℕ → Option Fault) (k m : ℕ) → first_from test k m ≡ None → (i : ℕ) → k ≤ i → i < k + m → test i ≡ None

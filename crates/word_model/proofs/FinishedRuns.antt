@@ -3,6 +3,7 @@ use Rattle.std.proofs.Common.{◌≡◌, ◌≢◌, ℕ, zero, suc, ◌-◌, ◌
 use Rattle.prime_field.specs.Modular.{inverse}
 use Rattle.monomials.specs.Leading.{leading_coefficient}
 use Rattle.monomials.specs.Polynomials.{Polynomial, Each, IsPolynomial, poly_scale}
+use Rattle.monomials.proofs.Keys.{Each-append}
 use Rattle.word_model.specs.Words.{Algebra}
 use Rattle.word_model.specs.Conditions.{IsGAlgebra}
 use Rattle.word_model.specs.Reduction.{reduce}
@@ -17,7 +18,7 @@ use Rattle.word_model.specs.declared.records.Entry.{Entry}
 use Rattle.word_model.specs.declared.records.Entry.TheVariants.{Skipped, Zero, New}
 use Rattle.word_model.specs.declared.records.Outcome.{Outcome}
 use Rattle.word_model.specs.declared.records.Outcome.TheVariants.{Finished, BudgetSpent, BasisFull, DegreeOver}
-use Rattle.word_model.proofs.Steps.{Each-append, Each-filter, least_job-one, IsTreated, first_state-is, step-keeps}
+use Rattle.word_model.proofs.Steps.{Each-filter, least_job-one, IsTreated, first_state-is, step-keeps}
 use Rattle.word_model.proofs.JobLists.{queued-seeds_from}
 use Rattle.word_model.proofs.Settled.{IsSettled, IsNumber, treats_last}
 use Rattle.word_model.proofs.LeastNumbers.{IsLeast, least_number-found}

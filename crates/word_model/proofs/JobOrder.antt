@@ -1,11 +1,12 @@
 -- The order of keys is total, and tells any two jobs apart.
-use Rattle.std.proofs.Common.{◌≡◌, ℕ, List, refl, ap, ◌∙◌, arith}
+use Rattle.std.proofs.Common.{◌≡◌, ℕ, List, refl, ap, ◌∙◌}
 use Rattle.std.proofs.Common.{Ordering, Less, Equal, Greater, nat_cmp}
 use Rattle.std.specs.Ordering.{ordering_then}
-use Rattle.std.specs.Cmp.{IsTotalOrder, then_total, on_total, nat_cmp_total, nat_cmp_is}
+use Rattle.std.specs.Cmp.{IsTotalOrder, then_total, on_total, nat_cmp_total}
 use Rattle.monomials.specs.Orders.{order_cmp}
 use Rattle.monomials.specs.Polynomials.{Polynomial}
 use Rattle.monomials.proofs.OrderLaws.{order_cmp_total}
+use Rattle.monomials.proofs.GradedRows.{nat_cmp_equal}
 use Rattle.word_model.specs.Words.{Algebra}
 use Rattle.word_model.specs.Jobs.{rank_of, rank_cmp, job_sugar, key_monomial, key_cmp}
 use Rattle.word_model.specs.declared.records.Job.{Job}
@@ -28,13 +29,10 @@ second_tied Less r e = cc
 second_tied Equal r e = e
 second_tied Greater r e = cc
 
-tied : (x y : ℕ) → nat_cmp x y ≡ Equal → x ≡ y
-tied x y e = grind (arith, nat_cmp_is, e)
-
 -- the second and the third number of ranks that tie
 ranks_tied : (x y z w : ℕ) → ordering_then (nat_cmp x z) (nat_cmp y w) ≡ Equal → (x ≡ z) × (y ≡ w)
 ranks_tied x y z w e =
-    (tied x z (first_tied (nat_cmp x z) (nat_cmp y w) e), tied y w (second_tied (nat_cmp x z) (nat_cmp y w) e))
+    (nat_cmp_equal x z (first_tied (nat_cmp x z) (nat_cmp y w) e), nat_cmp_equal y w (second_tied (nat_cmp x z) (nat_cmp y w) e))
 
 -- equal jobs alone tie
 pub rank_tied : (a b : Job) → rank_cmp (rank_of a) (rank_of b) ≡ Equal → a ≡ b

@@ -65,7 +65,13 @@ count_of-same v w = ap {B = ℕ} (λ b. cond b 1 0 + count_of v w) (same_test v)
 pub count_of-other : (v x : ℕ) (w : Word) → v ≢ x → count_of v (x ∷ w) ≡ count_of v w
 count_of-other v x w h = ap {B = ℕ} (λ b. cond b 1 0 + count_of v w) (other_test v x h) ∙ omega arith
 
-count_of-replicate : (v e : ℕ) → count_of v (replicate e v) ≡ e
+-- the sorted word of 1 has no letter
+pub word_from-zeros : (i n : ℕ) → word_from i (replicate n 0) ≡ []
+word_from-zeros i zero = refl
+word_from-zeros i (suc n) = word_from-zeros (suc i) n
+
+-- a power has as many letters as its exponent says
+pub count_of-replicate : (v e : ℕ) → count_of v (replicate e v) ≡ e
 count_of-replicate v zero = refl
 count_of-replicate v (suc e) = count_of-same v (replicate e v) ∙ ap suc (count_of-replicate v e)
 

@@ -1,5 +1,5 @@
 -- The monic multiple of a polynomial, and the monomial 1.
-use Rattle.std.proofs.Common.{◌≡◌, ◌≢◌, ℕ, zero, suc, ◌+◌, ◌*◌, ◌%◌, [], ◌∷◌, ◌++◌, length, replicate, refl, sym, ap, ◌∙◌, subst, arith, append-nil}
+use Rattle.std.proofs.Common.{◌≡◌, ◌≢◌, ℕ, zero, suc, ◌+◌, ◌*◌, ◌%◌, [], ◌∷◌, ◌++◌, length, refl, sym, ap, ◌∙◌, subst, arith, append-nil}
 use Rattle.std.proofs.Math.Nat.{mod-eq_of_lt}
 use Rattle.std.proofs.Math.ListN.{length-replicate}
 use Rattle.prime_field.specs.Modular.{inverse}
@@ -9,7 +9,8 @@ use Rattle.monomials.specs.Polynomials.{Polynomial, HasVars, IsPolynomial, cons_
 use Rattle.monomials.proofs.Modulo.{Same, same_refl, same_mul, same_mul_right}
 use Rattle.monomials.proofs.Weights.{weigh, weigh_alike_on, weigh-poly_scale}
 use Rattle.monomials.proofs.Keys.{Each-weaker}
-use Rattle.word_model.specs.Words.{Algebra, word_from, sorted_word}
+use Rattle.word_model.specs.Words.{Algebra, sorted_word}
+use Rattle.word_model.proofs.Letters.{word_from-zeros}
 use Rattle.word_model.specs.Conditions.{IsGAlgebra}
 use Rattle.word_model.specs.Reduction.{multiple}
 use Rattle.word_model.specs.Machine.{IsElement}
@@ -24,10 +25,6 @@ use Rattle.word_model.proofs.Differences.{scale_is, multiple_is}
 pub length-one : (n : ℕ) → length (one n) ≡ n
 length-one n = length-replicate n 0
 
-sorted_word-one : (i n : ℕ) → word_from i (replicate n 0) ≡ []
-sorted_word-one i zero = refl
-sorted_word-one i (suc n) = sorted_word-one (suc i) n
-
 pub plus-one : (n : ℕ) (m : Monomial) → length m ≡ n → plus (one n) m ≡ m
 plus-one zero [] e = refl
 plus-one zero (x ∷ m) e = absurd (omega arith)
@@ -38,14 +35,14 @@ module _ (A : Algebra) where
   -- behind m, 1 weighs what m does
   pub behind-one : (φ : Monomial → ℕ) (m : Monomial) → length m ≡ A.order.vars → behind A m φ (one A.order.vars) ≡ φ m
   behind-one φ m hm =
-      ap (λ w. word_weight A φ (sorted_word m ++ w)) (sorted_word-one 1 A.order.vars) ∙ ap (word_weight A φ) (append-nil (sorted_word m)) ∙ word_weight-sorted A φ m hm
+      ap (λ w. word_weight A φ (sorted_word m ++ w)) (word_from-zeros 1 A.order.vars) ∙ ap (word_weight A φ) (append-nil (sorted_word m)) ∙ word_weight-sorted A φ m hm
 
   -- 1 times g weighs what g does
   pub row_weight-one : (φ : Monomial → ℕ) (g : Polynomial) → HasVars A.order.vars g → Same A.p (row_weight A φ g (one A.order.vars)) (weigh φ g)
   row_weight-one φ g vars =
       weigh_alike_on A.p (λ b. word_weight A φ (sorted_word (one A.order.vars) ++ sorted_word b)) φ g
       (Each-weaker _ _ (λ t e.
-      same_refl A.p _ _ (ap (λ w. word_weight A φ (w ++ sorted_word t.1)) (sorted_word-one 1 A.order.vars) ∙ word_weight-sorted A φ t.1 e)) g vars)
+      same_refl A.p _ _ (ap (λ w. word_weight A φ (w ++ sorted_word t.1)) (word_from-zeros 1 A.order.vars) ∙ word_weight-sorted A φ t.1 e)) g vars)
 
 -- ---- monic multiples
 

@@ -7,19 +7,14 @@ use Rattle.monomials.specs.Polynomials.{Each}
 use Rattle.monomials.proofs.OrderLaws.{order_cmp_total, order_cmp_tied}
 use Rattle.monomials.proofs.Canonical.{ties_itself}
 use Rattle.word_model.proofs.Letters.{degree-cons}
-use Rattle.word_model.proofs.Ranks.{IsIn, monomials_up_to, IsIn-monomials_up_to, length-monomials_up_to, how_many, rank}
-
-how_many-le : (test : Monomial → Bool) (ms : List Monomial) → how_many test ms ≤ length ms
-how_many-le test [] = omega arith
-how_many-le test (m ∷ ms) =
-    elim (test m) as (λ b. cond b 1 0 + how_many test ms ≤ suc (length ms)) [ true ↦ omega (arith, how_many-le test ms) | false ↦ omega (arith, how_many-le test ms) ]
+use Rattle.word_model.proofs.Ranks.{IsIn, monomials_up_to, IsIn-monomials_up_to, length-monomials_up_to, how_many, how_many_at_most, rank}
 
 -- fewer pass than there are, where one of them does not
 how_many-below : (test : Monomial → Bool) (x : Monomial) → test x ≡ false → (ms : List Monomial) → IsIn x ms → how_many test ms < length ms
 how_many-below test x fails [] h = absurd h
 how_many-below test x fails (m ∷ ms) (inl e) =
     let none : ◌≡◌ {A = ℕ} (cond (test m) 1 0) 0 = ap (λ x. cond (test x) 1 0) (sym e) ∙ ap (λ v. cond v 1 0) fails in
-    omega (arith, how_many-le test ms)
+    omega (arith, how_many_at_most test ms)
 how_many-below test x fails (m ∷ ms) (inr h) =
     elim (test m) as (λ b. cond b 1 0 + how_many test ms < suc (length ms)) [
       | true ↦ omega (arith, how_many-below test x fails ms h)

@@ -17,7 +17,7 @@ use Rattle.word_model.proofs.Termination.{plus-comm}
 use Rattle.word_model.proofs.NormalForms.{word_weight, row_weight, weigh-product, normal_form_is_polynomial}
 use Rattle.word_model.proofs.Associativity.{product-assoc}
 use Rattle.word_model.proofs.LeadingMonomials.{order, Leads, NonZero-below, leads_is, rest_below, pair_leads, row_leads}
-use Rattle.word_model.proofs.Multiples.{length-leading_monomial}
+use Rattle.word_model.proofs.PairCofactors.{length-leading_monomial}
 use Rattle.word_model.proofs.Divisions.{length-minus, plus-minus}
 use Rattle.word_model.proofs.CommonMultiples.{length-plus, plus-assoc, minus-plus, divides-plus}
 
@@ -101,7 +101,7 @@ module _ (A : Algebra) (G : List Polynomial) where
     pub is : IsElement A (element G i)
 
   pub length-lead : (i : ℕ) → IsThere i → length (lead i) ≡ A.order.vars
-  length-lead i there = length-leading_monomial A (element G i) there.is.0.vars there.is.1
+  length-lead i there = length-leading_monomial A.order.vars (element G i) there.is.0.vars there.is.1
 
   -- the leading monomial of a multiple
   abbrev pub top : Multiple → Monomial

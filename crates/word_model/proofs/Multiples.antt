@@ -18,6 +18,7 @@ use Rattle.word_model.specs.Products.{degree_limit}
 use Rattle.word_model.specs.Reduction.{element, quotient, multiple, is_within, step_by, less_step}
 use Rattle.word_model.specs.declared.records.TraceStep.{TraceStep}
 use Rattle.word_model.proofs.NormalForms.{row_weight, weigh-product, product_is_polynomial, same_weights}
+use Rattle.word_model.proofs.PairCofactors.{length-leading_monomial}
 use Rattle.word_model.proofs.LeadingMonomials.{order, NonZero-below, rest_below, leading_monomial-product}
 use Rattle.word_model.proofs.Degrees.{HasDegrees-poly_degree, poly_degree-le, poly_degree-product}
 use Rattle.word_model.proofs.LeastNumbers.{Each-element, IsFirstDivisor}
@@ -99,10 +100,6 @@ module _ (A : Algebra) where
   at_most_leading [] h = tt
   at_most_leading (t ∷ f) h = (inr refl, Each-weaker _ _ (λ u less. inl less) f (rest_below A t f h.3 h.2))
 
-  pub length-leading_monomial : (f : Polynomial) → HasVars A.order.vars f → f ≢ [] → length (leading_monomial f) ≡ A.order.vars
-  length-leading_monomial [] vars nonzero = absurd (nonzero refl)
-  length-leading_monomial (t ∷ f) vars nonzero = vars.0
-
 -- ---- multiples
 
 module _ (A : Algebra) (ok : IsGAlgebra A) where
@@ -181,7 +178,7 @@ module _ (A : Algebra) (ok : IsGAlgebra A) where
     t_vars = (Each-second _ f (t ∷ rest) whole.vars).0
 
     same_vars : length t.1 ≡ length (leading_monomial g)
-    same_vars = t_vars ∙ sym (length-leading_monomial A g g_is.vars divisor.nonzero)
+    same_vars = t_vars ∙ sym (length-leading_monomial A.order.vars g g_is.vars divisor.nonzero)
 
     pub step_vars : length (minus t.1 (leading_monomial (element G i))) ≡ A.order.vars
     step_vars = length-minus t.1 (leading_monomial g) same_vars ∙ t_vars

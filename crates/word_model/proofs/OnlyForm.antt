@@ -1,6 +1,5 @@
 -- The normal form is the only function with its two equations.
-use Rattle.std.proofs.Common.{◌≡◌, ℕ, ◌<◌, ◌≤◌, [], ◌∷◌, ◌++◌, length, Some, None, sym, ◌∙◌, le_refl}
-use Rattle.monomials.specs.Monomials.{Monomial}
+use Rattle.std.proofs.Common.{◌≡◌, ℕ, [], ◌∷◌, ◌++◌, length, Some, None, sym, ◌∙◌, le_refl}
 use Rattle.monomials.specs.Orders.{order_cmp}
 use Rattle.monomials.specs.Polynomials.{Polynomial, Each, sum_over}
 use Rattle.word_model.specs.Words.{Algebra, Word, IsWord, monomial_of, sorted_word, leftmost_descent, d_of, rewritten, Descent, normal_form, word_value, RewritesDown}

@@ -17,12 +17,12 @@ use Rattle.word_model.proofs.Inside.{inside, weight_between}
 
 -- ---- the two ways down, as sums
 
-six_terms : (q cij cix cjx d_x x_d j_d d_j d_i i_d : ℕ)
+pub six_terms : (q cij cix cjx d_x x_d j_d d_j d_i i_d : ℕ)
     → cix * cjx * d_x + (q * x_d + (cjx * j_d + (q * cij * d_j + (1 * d_i + q * (cij * cix) * i_d))))
     ≡ (cix * cjx * d_x + cjx * j_d + d_i) + q * (x_d + cij * d_j + cij * cix * i_d)
 six_terms q cij cix cjx d_x x_d j_d d_j d_i i_d = omega arith
 
-one_side : (cij cix cjx z d_x j_d d_i : ℕ)
+pub one_side : (cij cix cjx z d_x j_d d_i : ℕ)
     → cjx * (cix * (cij * z + d_x) + j_d) + d_i ≡ cjx * cix * cij * z + (cix * cjx * d_x + cjx * j_d + d_i)
 one_side cij cix cjx z d_x j_d d_i = omega arith
 

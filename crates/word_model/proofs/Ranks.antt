@@ -85,7 +85,7 @@ abbrev pub how_many : (Monomial → Bool) → List Monomial → ℕ
 how_many test [] = 0
 how_many test (m ∷ ms) = cond (test m) 1 0 + how_many test ms
 
-how_many_at_most : (test : Monomial → Bool) (ms : List Monomial) → how_many test ms ≤ length ms
+pub how_many_at_most : (test : Monomial → Bool) (ms : List Monomial) → how_many test ms ≤ length ms
 how_many_at_most test [] = omega arith
 how_many_at_most test (m ∷ ms) =
     elim (test m) as (λ b. cond b 1 0 + how_many test ms ≤ suc (length ms)) [ true ↦ omega (arith, how_many_at_most test ms) | false ↦ omega (arith, how_many_at_most test ms) ]

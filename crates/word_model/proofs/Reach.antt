@@ -1,5 +1,5 @@
 -- The limit of degrees, of steps and of products.
-use Rattle.std.proofs.Common.{◌≡◌, ◌≢◌, ℕ, ◌+◌, max, nat_le, [], ◌∷◌, refl, sym, ap, arith}
+use Rattle.std.proofs.Common.{◌≡◌, ◌≢◌, ℕ, ◌+◌, nat_le, [], ◌∷◌, refl, sym, ap, arith}
 use Rattle.monomials.specs.Monomials.{Monomial, degree}
 use Rattle.monomials.specs.Polynomials.{Polynomial, poly_degree}
 use Rattle.word_model.specs.Products.{degree_limit, in_reach}

@@ -17,7 +17,7 @@ use Rattle.word_model.specs.Ideals.{IsOneOf, Ascends, IsGroebnerBasis, IsReduced
 use Rattle.word_model.specs.declared.records.Mode.{Mode}
 use Rattle.word_model.proofs.LeadingMonomials.{order}
 use Rattle.word_model.proofs.LeastNumbers.{Each-element, first_divisor-none, lead_divides-divides}
-use Rattle.word_model.proofs.Multiples.{length-leading_monomial}
+use Rattle.word_model.proofs.PairCofactors.{length-leading_monomial}
 use Rattle.word_model.proofs.Sums.{sum_same, sum_add, sum_scale}
 use Rattle.word_model.proofs.MultipleWeights.{multiple_weight}
 use Rattle.word_model.proofs.Connections.{positive}
@@ -155,7 +155,7 @@ module _ (A : Algebra) (ok : IsGAlgebra A) (gens : List Polynomial) (sorted : Ea
         let fx : IsFinal A ok G elements x.0 = final x.0 x.1 in
         let lead : leading_monomial x.0.polynomial ≡ leading_monomial (element G k.0) = final-leading A ok G elements x.0 fx ∙ ap (λ i. leading_monomial (element G i)) x.2 in
         let len : (i : ℕ) → IsNumber G i → length (leading_monomial (element G i)) ≡ A.order.vars =
-        λ i n. (let el : IsElement A (element G i) = Each-element (IsElement A) G i elements n.0 n.1 in length-leading_monomial A (element G i) el.0.vars el.1) in
+        λ i n. (let el : IsElement A (element G i) = Each-element (IsElement A) G i elements n.0 n.1 in length-leading_monomial A.order.vars (element G i) el.0.vars el.1) in
         let through : divides (leading_monomial (element G k.0)) (leading_monomial f) ≡ true =
         divides-trans (leading_monomial (element G k.0)) (leading_monomial (element G d.0)) (leading_monomial f) (len k.0 k.1.0 ∙ sym (len d.0 (d.1, d.2))) k.1.2
         (lead_divides-divides (element G d.0) (leading_monomial f) d.3) in

@@ -5,7 +5,7 @@ use Rattle.std.proofs.lemmas.List.{length-set, length-replicate}
 use Rattle.std.proofs.lemmas.Bool.Decides.{nat_tests}
 use Rattle.prime_field.specs.Modular.{inverse}
 use Rattle.monomials.specs.Monomials.{Monomial, one}
-use Rattle.monomials.specs.Leading.{leading_monomial, leading_coefficient}
+use Rattle.monomials.specs.Leading.{leading_coefficient}
 use Rattle.monomials.specs.Polynomials.{Polynomial, Each, HasVars, IsPolynomial, poly_scale}
 use Rattle.monomials.proofs.Modulo.{Same, same_refl, same_add, same_mul, same_move}
 use Rattle.monomials.proofs.Weights.{weigh, weigh-poly_scale}
@@ -13,9 +13,9 @@ use Rattle.monomials.proofs.Keys.{Each-weaker, EachKey, HasVars-poly_scale}
 use Rattle.word_model.specs.Words.{Algebra}
 use Rattle.word_model.specs.Conditions.{IsGAlgebra}
 use Rattle.word_model.specs.Reduction.{element, multiple}
-use Rattle.word_model.specs.Jobs.{s_polynomial, start_of, pair_lcm}
+use Rattle.word_model.specs.Jobs.{s_polynomial, start_of, first_cofactor, second_cofactor, second_number}
 use Rattle.word_model.specs.Machine.{IsElement}
-use Rattle.word_model.specs.Cofactors.{Row, unit_row, row_sub, row_multiple, row_at, first_cofactor, second_cofactor, second_number, start_row, less_steps, new_row, rows_after}
+use Rattle.word_model.specs.Cofactors.{Row, unit_row, row_sub, row_multiple, row_at, start_row, less_steps, new_row, rows_after}
 use Rattle.word_model.specs.declared.records.Job.{Job}
 use Rattle.word_model.specs.declared.records.Job.TheVariants.{Seed, Pair, Right}
 use Rattle.word_model.specs.declared.records.Mode.TheVariants.{Left}
@@ -24,9 +24,7 @@ use Rattle.word_model.specs.declared.records.Entry.{Entry}
 use Rattle.word_model.specs.declared.records.Entry.TheVariants.{Skipped, Zero, New}
 use Rattle.word_model.proofs.NormalForms.{product_is_polynomial, Each-always}
 use Rattle.word_model.proofs.LeastNumbers.{Each-element}
-use Rattle.word_model.proofs.Divisions.{length-minus}
-use Rattle.word_model.proofs.CommonMultiples.{length-lcm}
-use Rattle.word_model.proofs.Multiples.{length-leading_monomial}
+use Rattle.word_model.proofs.PairCofactors.{Reaches, reaches}
 use Rattle.word_model.proofs.MultipleWeights.{behind, Multiple, multiple_weight}
 use Rattle.word_model.proofs.Connections.{positive}
 use Rattle.word_model.proofs.Differences.{weigh-sub, EachKey-sub, weigh-multiple}
@@ -155,24 +153,20 @@ module _ (A : Algebra) (ok : IsGAlgebra A) (gens : List Polynomial) (sorted : Ea
         regroup e f x y = omega arith
 
     -- the cofactors of a pair are monomials of the algebra
-    pub length-cofactors : (i j : ℕ) → IsNumber G i → IsNumber G j → (length (first_cofactor G i j) ≡ A.order.vars) × (length (second_cofactor G i j) ≡ A.order.vars)
+    pub length-cofactors : (i j : ℕ) → IsNumber G i → IsNumber G j → (length (first_cofactor (element G i) (element G j)) ≡ A.order.vars) × (length (second_cofactor (element G i) (element G j)) ≡ A.order.vars)
     length-cofactors i j hi hj =
         let el_i : IsElement A (element G i) = Each-element (IsElement A) G i elements hi.0 hi.1 in
         let el_j : IsElement A (element G j) = Each-element (IsElement A) G j elements hj.0 hj.1 in
-        let li : length (leading_monomial (element G i)) ≡ A.order.vars = length-leading_monomial A (element G i) el_i.0.vars el_i.1 in
-        let lj : length (leading_monomial (element G j)) ≡ A.order.vars = length-leading_monomial A (element G j) el_j.0.vars el_j.1 in
-        let ll : length (pair_lcm G i j) ≡ A.order.vars = length-lcm (leading_monomial (element G i)) (leading_monomial (element G j)) (li ∙ sym lj) ∙ li in (
-          length-minus (pair_lcm G i j) (leading_monomial (element G i)) (ll ∙ sym li) ∙ ll,
-          length-minus (pair_lcm G i j) (leading_monomial (element G j)) (ll ∙ sym lj) ∙ ll,
-        )
+        let r : Reaches A.order.vars (element G i) (element G j) = reaches A.order.vars (element G i) (element G j) el_i.0.vars el_j.0.vars el_i.1 el_j.1 in
+        (r.first_vars, r.second_vars)
 
     value_pair : (R : List Row) (n : ℕ) → AreRows R n → (i j : ℕ) → IsNumber G i → IsNumber G j → i ≤ n → j ≤ n
         → IsValue (start_row A (length gens) G R (Pair i j)) (λ φ. weigh φ (s_polynomial A (element G i) (element G j)))
     value_pair R n rows i j hi hj i_low j_low =
-        let lengths : (length (first_cofactor G i j) ≡ A.order.vars) × (length (second_cofactor G i j) ≡ A.order.vars) = length-cofactors i j hi hj in
-        let a : Monomial = first_cofactor G i j in
-        let b : Monomial = second_cofactor G i j in
-        let k : ℕ = second_number A G i j in
+        let lengths : (length (first_cofactor (element G i) (element G j)) ≡ A.order.vars) × (length (second_cofactor (element G i) (element G j)) ≡ A.order.vars) = length-cofactors i j hi hj in
+        let a : Monomial = first_cofactor (element G i) (element G j) in
+        let b : Monomial = second_cofactor (element G i) (element G j) in
+        let k : ℕ = second_number A (element G i) (element G j) in
         value_same (start_row A (length gens) G R (Pair i j)) (λ φ. 1 * multiple_weight A G φ (a, i) + (A.p - 1) * (k * multiple_weight A G φ (b, j)))
         (λ φ. weigh φ (s_polynomial A (element G i) (element G j)))
         (λ φ.

@@ -5,6 +5,7 @@ use Rattle.monomials.proofs.Keys.{Each-weaker}
 use Rattle.word_model.specs.Words.{Word, IsWord, count_of, counts_from, monomial_of, word_from, sorted_word, leftmost_descent}
 use Rattle.word_model.proofs.Letters.{count_of-same, count_of-other, counts_from-lower}
 use Rattle.word_model.proofs.Descents.{rising}
+use Rattle.word_model.proofs.LeastNumbers.{here_or_later}
 
 -- all letters are among the n variables from number i on
 abbrev pub IsBetween : ℕ → ℕ → Word → Type 0
@@ -18,14 +19,11 @@ count_of-absent : (i : ℕ) (w : Word) → Each (λ y. suc i ≤ y) w → count_
 count_of-absent i [] h = refl
 count_of-absent i (x ∷ w) h = count_of-other i x w (omega (arith, h.0)) ∙ count_of-absent i w h.1
 
-same_or_above : (i x : ℕ) → i ≤ x → (i ≡ x) ⊎ (suc i ≤ x)
-same_or_above i x h = grind arith
-
 module _ (i n : ℕ) (later : (w : Word) → IsBetween (suc i) n w → leftmost_descent w ≡ None → word_from (suc i) (counts_from (suc i) n w) ≡ w) where
   -- where it holds of the later variables, it holds with variable i before them
   with_variable : (w : Word) → IsBetween i (suc n) w → leftmost_descent w ≡ None → word_from i (counts_from i (suc n) w) ≡ w
   with_variable [] h e = later [] tt refl
-  with_variable (x ∷ w) h e = by (with_variable w) (same_or_above i x h.0.0)
+  with_variable (x ∷ w) h e = by (with_variable w) (here_or_later i x h.0.0)
     where
       by : (IsBetween i (suc n) w → leftmost_descent w ≡ None → word_from i (counts_from i (suc n) w) ≡ w) → (i ≡ x) ⊎ (suc i ≤ x)
           → word_from i (counts_from i (suc n) (x ∷ w)) ≡ x ∷ w

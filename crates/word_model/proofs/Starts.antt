@@ -17,7 +17,7 @@ use Rattle.word_model.proofs.LeastNumbers.{Each-element}
 use Rattle.word_model.proofs.Divisions.{length-minus}
 use Rattle.word_model.proofs.CommonMultiples.{length-lcm}
 use Rattle.word_model.proofs.Associativity.{length-variable}
-use Rattle.word_model.proofs.Multiples.{length-leading_monomial}
+use Rattle.word_model.proofs.PairCofactors.{length-leading_monomial}
 use Rattle.word_model.proofs.Differences.{EachKey-sub}
 
 -- the start of a pair is its S-polynomial
@@ -73,8 +73,8 @@ module _ (A : Algebra) (ok : IsGAlgebra A) where
         let l : Monomial = lcm (leading_monomial f) (leading_monomial g) in
         let a : Monomial = minus l (leading_monomial f) in
         let b : Monomial = minus l (leading_monomial g) in
-        let lf : length (leading_monomial f) ≡ A.order.vars = length-leading_monomial A f el_i.0.vars el_i.1 in
-        let lg : length (leading_monomial g) ≡ A.order.vars = length-leading_monomial A g el_j.0.vars el_j.1 in
+        let lf : length (leading_monomial f) ≡ A.order.vars = length-leading_monomial A.order.vars f el_i.0.vars el_i.1 in
+        let lg : length (leading_monomial g) ≡ A.order.vars = length-leading_monomial A.order.vars g el_j.0.vars el_j.1 in
         let ll : length l ≡ A.order.vars = length-lcm (leading_monomial f) (leading_monomial g) (lf ∙ sym lg) ∙ lf in
         let within : (is_within a f ≡ true) × (is_within b g ≡ true) = and_parts (is_within a f) (is_within b g) is.1 in
         let k : ℕ = quotient A.p (leading_coefficient (multiple A 1 a f)) (leading_coefficient (multiple A 1 b g)) in

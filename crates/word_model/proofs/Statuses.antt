@@ -1,5 +1,5 @@
 -- The statuses that scripts are answered.
-use Rattle.std.proofs.Common.{◌≡◌, ℕ, ◌%◌, ◌<◌, ◌≤◌, ◌==◌, not, Bool, true, false, List, [], ◌∷◌, length, map, nat_lt, Option, Some, None, if◌then◌else◌, arith}
+use Rattle.std.proofs.Common.{ℕ, ◌%◌, ◌≤◌, ◌==◌, not, Bool, true, false, List, [], ◌∷◌, length, map, nat_lt, Option, Some, None, if◌then◌else◌, arith}
 use Rattle.prime_field.specs.Modular.{in_table}
 use Rattle.word_model.specs.Words.{Algebra}
 use Rattle.word_model.specs.Products.{letters_product}

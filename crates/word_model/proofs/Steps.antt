@@ -9,7 +9,7 @@ use Rattle.monomials.specs.Polynomials.{Polynomial, Each, IsPolynomial, poly_deg
 use Rattle.monomials.specs.Orders.{order_cmp}
 use Rattle.monomials.specs.Leading.{leading_coefficient}
 use Rattle.monomials.proofs.Modulo.{Same}
-use Rattle.monomials.proofs.Keys.{EachKey-poly_scale}
+use Rattle.monomials.proofs.Keys.{Each-append, Each-weaker, EachKey-poly_scale}
 use Rattle.monomials.proofs.Operations.{IsPolynomial-poly_add, IsPolynomial-poly_scale}
 use Rattle.prime_field.specs.Modular.{inverse}
 use Rattle.word_model.specs.Words.{Algebra}
@@ -34,16 +34,6 @@ use Rattle.word_model.specs.declared.records.Entry.TheVariants.{Zero}
 use Rattle.word_model.specs.declared.records.Outcome.TheVariants.{Finished, BudgetSpent, BasisFull, DegreeOver}
 
 -- ---- lists
-
--- what holds of all elements of two lists holds of all of both
-pub Each-append : {X : Type 0} (P : X → Type 0) (xs ys : List X) → Each P xs → Each P ys → Each P (xs ++ ys)
-Each-append P [] ys h k = k
-Each-append P (x ∷ xs) ys h k = (h.0, Each-append P xs ys h.1 k)
-
--- what follows holds as well
-pub Each-weaker : {X : Type 0} (P Q : X → Type 0) → ((x : X) → P x → Q x) → (xs : List X) → Each P xs → Each Q xs
-Each-weaker P Q go [] h = tt
-Each-weaker P Q go (x ∷ xs) h = (go x h.0, Each-weaker P Q go xs h.1)
 
 -- what holds of all elements holds of those that a filter leaves
 pub Each-filter : {X : Type 0} (P : X → Type 0) (test : X → Bool) (xs : List X) → Each P xs → Each P (filter test xs)

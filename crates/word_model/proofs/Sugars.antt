@@ -21,7 +21,8 @@ use Rattle.word_model.proofs.Divisions.{length-minus, plus-minus}
 use Rattle.word_model.proofs.CommonMultiples.{length-lcm, divides-lcm, divides-lcm_second}
 use Rattle.word_model.proofs.TermProducts.{poly_degree-variable}
 use Rattle.word_model.proofs.Targets.{IsPicked, leading_target-falls}
-use Rattle.word_model.proofs.Multiples.{length-leading_monomial, step_vars}
+use Rattle.word_model.proofs.Multiples.{step_vars}
+use Rattle.word_model.proofs.PairCofactors.{length-leading_monomial}
 use Rattle.word_model.proofs.Differences.{EachKey-sub}
 use Rattle.word_model.proofs.Starts.{start_of-pair, start_of-seed, start_of-right}
 use Rattle.word_model.proofs.Reductions.{IsOf, next_step-goes}
@@ -68,7 +69,7 @@ module _ (A : Algebra) (ok : IsGAlgebra A) where
     lifted : (f : Polynomial) (l : Monomial) (c s : ℕ) → IsElement A f → length l ≡ A.order.vars → plus (minus l (leading_monomial f)) (leading_monomial f) ≡ l → poly_degree f ≤ s
         → poly_degree (multiple A c (minus l (leading_monomial f)) f) ≤ degree l + (s - degree (leading_monomial f))
     lifted f l c s f_is vars over low =
-        let lf : length (leading_monomial f) ≡ A.order.vars = length-leading_monomial A f f_is.0.vars f_is.1 in
+        let lf : length (leading_monomial f) ≡ A.order.vars = length-leading_monomial A.order.vars f f_is.0.vars f_is.1 in
         let lm : length (minus l (leading_monomial f)) ≡ length l = length-minus l (leading_monomial f) (vars ∙ sym lf) in
         let sum : degree (minus l (leading_monomial f)) + degree (leading_monomial f) ≡ degree l =
         sym (degree-plus (minus l (leading_monomial f)) (leading_monomial f) (lm ∙ vars ∙ sym lf)) ∙ ap degree over in
@@ -84,8 +85,8 @@ module _ (A : Algebra) (ok : IsGAlgebra A) where
         let g : Polynomial = element G j in
         let f_is : IsElement A (element G i) = Each-element (IsElement A) G i elements named.0 (omega (arith, named.1, named.2)) in
         let g_is : IsElement A (element G j) = Each-element (IsElement A) G j elements (omega (arith, named.0, named.1)) named.2 in
-        let lf : length (leading_monomial f) ≡ A.order.vars = length-leading_monomial A f f_is.0.vars f_is.1 in
-        let lg : length (leading_monomial g) ≡ A.order.vars = length-leading_monomial A g g_is.0.vars g_is.1 in
+        let lf : length (leading_monomial f) ≡ A.order.vars = length-leading_monomial A.order.vars f f_is.0.vars f_is.1 in
+        let lg : length (leading_monomial g) ≡ A.order.vars = length-leading_monomial A.order.vars g g_is.0.vars g_is.1 in
         let l : Monomial = lcm (leading_monomial f) (leading_monomial g) in
         let vars : length l ≡ A.order.vars = length-lcm (leading_monomial f) (leading_monomial g) (lf ∙ sym lg) ∙ lf in
         let a : Monomial = minus l (leading_monomial f) in

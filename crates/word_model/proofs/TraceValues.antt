@@ -17,7 +17,7 @@ use Rattle.word_model.proofs.LeadingMonomials.{order}
 use Rattle.word_model.proofs.LeastNumbers.{Each-element}
 use Rattle.word_model.proofs.Divisions.{length-minus, plus-minus}
 use Rattle.word_model.proofs.Targets.{IsPicked}
-use Rattle.word_model.proofs.Multiples.{length-leading_monomial}
+use Rattle.word_model.proofs.PairCofactors.{length-leading_monomial}
 use Rattle.word_model.proofs.Reductions.{IsOf, next_step-goes}
 use Rattle.word_model.proofs.MultipleWeights.{Multiple, multiple_weight, Fits, top}
 use Rattle.word_model.proofs.Connections.{positive}
@@ -51,7 +51,7 @@ module _ (A : Algebra) (ok : IsGAlgebra A) (G : List Polynomial) (elements : Eac
       let el : IsElement A g = (Each-element (IsOf A ok) G i elements picked.divisor.low picked.divisor.high, picked.divisor.nonzero) in
       let at : Q t.1 = (Each-second _ picked.above (t ∷ picked.rest) (subst (EachKey Q) picked.is keys)).0 in
       let vars : length t.1 ≡ A.order.vars = (Each-second _ picked.above (t ∷ picked.rest) (subst (HasVars A.order.vars) picked.is h_is.vars)).0 in
-      let lengths : length t.1 ≡ length (leading_monomial g) = vars ∙ sym (length-leading_monomial A g el.0.vars el.1) in
+      let lengths : length t.1 ≡ length (leading_monomial g) = vars ∙ sym (length-leading_monomial A.order.vars g el.0.vars el.1) in
       let hm : length s.mono ≡ A.order.vars = length-minus t.1 (leading_monomial g) lengths ∙ vars in
       let is_top : plus s.mono (leading_monomial g) ≡ t.1 = plus-minus t.1 (leading_monomial g) lengths picked.divisor.divides_it in
       record {

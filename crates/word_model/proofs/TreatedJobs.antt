@@ -21,7 +21,7 @@ use Rattle.word_model.specs.declared.records.Entry.{Entry}
 use Rattle.word_model.specs.declared.records.Entry.TheVariants.{Skipped, Zero, New}
 use Rattle.word_model.proofs.NormalForms.{row_weight}
 use Rattle.word_model.proofs.LeadingMonomials.{order}
-use Rattle.word_model.proofs.Multiples.{length-leading_monomial}
+use Rattle.word_model.proofs.PairCofactors.{length-leading_monomial}
 use Rattle.word_model.proofs.Reductions.{IsOf}
 use Rattle.word_model.proofs.Steps.{start_of-sorted}
 use Rattle.word_model.proofs.Sums.{IsSum, sum_same, sum_add, sum_scale, sum_one}
@@ -96,7 +96,7 @@ module _ (A : Algebra) (ok : IsGAlgebra A) (gens : List Polynomial) (sorted : Ea
     rest_top =
         ap (λ g. plus (one A.order.vars) (leading_monomial g)) rest_element
         ∙ ap (plus (one A.order.vars)) (monic-leading A ok r r_is nonzero)
-        ∙ plus-one A.order.vars (leading_monomial r) (length-leading_monomial A r r_is.vars nonzero)
+        ∙ plus-one A.order.vars (leading_monomial r) (length-leading_monomial A.order.vars r r_is.vars nonzero)
 
     pub rest_value : (φ : Monomial → ℕ) → Same A.p (weigh φ r) (leading_coefficient r * multiple_weight A G φ of_rest)
     rest_value φ =

@@ -11,10 +11,10 @@ use Rattle.monomials.proofs.OrderLaws.{order_cmp_total}
 use Rattle.monomials.proofs.Keys.{Each-weaker, EachKey}
 use Rattle.word_model.specs.Words.{Algebra}
 use Rattle.word_model.specs.Conditions.{IsGAlgebra}
-use Rattle.word_model.specs.Reduction.{multiple}
-use Rattle.word_model.specs.Jobs.{pair_lcm, s_polynomial}
+use Rattle.word_model.specs.Reduction.{multiple, element}
+use Rattle.word_model.specs.Jobs.{pair_lcm, s_polynomial, first_cofactor, second_cofactor, second_number}
 use Rattle.word_model.specs.Machine.{IsElement}
-use Rattle.word_model.specs.Cofactors.{Row, row_sub, row_multiple, row_at, first_cofactor, second_cofactor, second_number, start_row, less_steps, rows_after}
+use Rattle.word_model.specs.Cofactors.{Row, row_sub, row_multiple, row_at, start_row, less_steps, rows_after}
 use Rattle.word_model.specs.Ideals.{IsOneOf}
 use Rattle.word_model.specs.Syzygies.{is_zero_row, entry_syzygies}
 use Rattle.word_model.specs.declared.records.Job.{Job}
@@ -221,9 +221,9 @@ module _ (A : Algebra) (ok : IsGAlgebra A) (gens : List Polynomial) (sorted : Ea
     -- so the pair's elements are linked
     pub pair_linked : Linked A ok G frame i j
     pair_linked =
-        let a : Monomial = first_cofactor G i j in
-        let b : Monomial = second_cofactor G i j in
-        let k : ℕ = second_number A G i j in
+        let a : Monomial = first_cofactor (element G i) (element G j) in
+        let b : Monomial = second_cofactor (element G i) (element G j) in
+        let k : ℕ = second_number A (element G i) (element G j) in
         let first : Row = row_multiple A 1 a (row_at R i) in
         let second : Row = row_multiple A k b (row_at R j) in
         let len_first : length first ≡ length gens = length-mapped (multiple A 1 a) (row_at R i) ∙ (rows i ti.low ti.high).one_each in

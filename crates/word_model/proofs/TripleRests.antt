@@ -1,26 +1,18 @@
 -- The rest of a triple is the difference of the two rewritings of its word, from the relations' pairs alone.
-use Rattle.std.proofs.Common.{◌≡◌, ℕ, ◌+◌, ◌-◌, ◌*◌, ◌<◌, ◌≤◌, [], ◌∷◌, ◌++◌, Some, refl, sym, ap, ◌∙◌, arith, append-nil}
+use Rattle.std.proofs.Common.{◌≡◌, ℕ, ◌+◌, ◌-◌, ◌*◌, ◌<◌, ◌≤◌, [], ◌∷◌, ◌++◌, refl, sym, ap, ◌∙◌, arith, append-nil}
 use Rattle.monomials.specs.Monomials.{Monomial}
 use Rattle.monomials.specs.Orders.{order_cmp}
-use Rattle.monomials.specs.Polynomials.{Polynomial, IsPolynomial, poly_scale, poly_sub}
+use Rattle.monomials.specs.Polynomials.{Polynomial, poly_scale, poly_sub}
 use Rattle.monomials.proofs.Modulo.{Same, same_refl, same_add, same_mul, same_lin, same_none}
 use Rattle.monomials.proofs.OrderLaws.{order_cmp_tied}
 use Rattle.monomials.proofs.Weights.{weigh, weigh-append, weigh-times, weigh_equal, weigh-poly_add, weigh-poly_scale}
 use Rattle.monomials.proofs.Operations.{IsPolynomial-poly_add, IsPolynomial-poly_scale}
-use Rattle.word_model.specs.Words.{Algebra, Word, WordSum, IsWord, sorted_word, behind_letter, leftmost_descent, c_of, d_of, rewritten, word_value, RewritesDown}
+use Rattle.word_model.specs.Words.{Algebra, Word, WordSum, sorted_word, behind_letter, c_of, d_of, rewritten, word_value, RewritesDown}
 use Rattle.word_model.specs.Conditions.{times_words, overlap, triple_rest}
 use Rattle.word_model.proofs.Descents.{descent, descent_here, descent_behind}
 use Rattle.word_model.proofs.NormalForms.{word_weight, weigh-word_value, word_value_is_polynomial, same_weights}
 use Rattle.word_model.proofs.Rules.{weigh-rewritten, by_descent}
-
-six_terms : (q cij cik cjk d_k k_d j_d d_j d_i i_d : ℕ)
-    → cik * cjk * d_k + (q * k_d + (cjk * j_d + (q * cij * d_j + (1 * d_i + q * (cij * cik) * i_d))))
-    ≡ (cik * cjk * d_k + cjk * j_d + d_i) + q * (k_d + cij * d_j + cij * cik * i_d)
-six_terms q cij cik cjk d_k k_d j_d d_j d_i i_d = omega arith
-
-one_way : (cij cik cjk z d_k j_d d_i : ℕ)
-    → cjk * (cik * (cij * z + d_k) + j_d) + d_i ≡ cjk * cik * cij * z + (cik * cjk * d_k + cjk * j_d + d_i)
-one_way cij cik cjk z d_k j_d d_i = omega arith
+use Rattle.word_model.proofs.Overlaps.{six_terms, one_side}
 
 other_way : (cij cik cjk z k_d d_j i_d : ℕ)
     → cij * (cik * (cjk * z + i_d) + d_j) + k_d ≡ cjk * cik * cij * z + (k_d + cij * d_j + cij * cik * i_d)
@@ -109,7 +101,7 @@ module _ (A : Algebra) (above_one : 1 < A.p) (downward : RewritesDown A) (i j k 
         ∙ same_lin A.p (c_of A j k) _ _ d_i d_i
         (behind j k i j_in k_in i_in (omega arith) (omega arith) ∙ same_lin A.p (c_of A i k) _ _ j_d j_d (in_front j i k j_in i_in k_in ij) refl)
         refl
-        ∙ same_refl A.p _ _ (one_way (c_of A i j) (c_of A i k) (c_of A j k) z d_k j_d d_i)
+        ∙ same_refl A.p _ _ (one_side (c_of A i j) (c_of A i k) (c_of A j k) z d_k j_d d_i)
 
     weigh-second : Same A.p (weigh φ second_value) (most + second_rest)
     weigh-second =

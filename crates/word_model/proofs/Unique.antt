@@ -16,7 +16,8 @@ use Rattle.word_model.specs.Ideals.{IsOneOf, Ascends, IsReducedBasis}
 use Rattle.word_model.proofs.NormalForms.{same_weights}
 use Rattle.word_model.proofs.LeadingMonomials.{order, rest_below}
 use Rattle.word_model.proofs.LeastNumbers.{lead_divides-nonzero, lead_divides-divides}
-use Rattle.word_model.proofs.Multiples.{leading_number, length-leading_monomial}
+use Rattle.word_model.proofs.Multiples.{leading_number}
+use Rattle.word_model.proofs.PairCofactors.{length-leading_monomial}
 use Rattle.word_model.proofs.Connections.{positive}
 use Rattle.word_model.proofs.Differences.{sub, weigh-sub, sub_is, EachKey-sub}
 use Rattle.word_model.proofs.CommonMultiples.{divides-trans, divides-antisym}
@@ -157,7 +158,7 @@ module _ (A : Algebra) (ok : IsGAlgebra A) (well : IsWellFounded A.order) (I : P
         let k : (k : Polynomial) × IsOneOf k F × (lead_divides k (leading_monomial g.0) ≡ true) = a.divided g.0 g_in g_some in
         let k_in : I k.0 = each_one I k.0 F a.inside k.1 in
         let k_some : k.0 ≢ [] = lead_divides-nonzero k.0 (leading_monomial g.0) k.2 in
-        let len : (f : Polynomial) → I f → f ≢ [] → length (leading_monomial f) ≡ A.order.vars = λ f i some. length-leading_monomial A f (is f i).vars some in
+        let len : (f : Polynomial) → I f → f ≢ [] → length (leading_monomial f) ≡ A.order.vars = λ f i some. length-leading_monomial A.order.vars f (is f i).vars some in
         let lf : length (leading_monomial f) ≡ A.order.vars = len f f_in f_some in
         let lg : length (leading_monomial g.0) ≡ A.order.vars = len g.0 g_in g_some in
         let lk : length (leading_monomial k.0) ≡ A.order.vars = len k.0 k_in k_some in

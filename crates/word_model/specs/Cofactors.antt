@@ -1,13 +1,12 @@
 -- Cofactors: how the elements of a left run are left combinations of its generators.
 use Rattle.std.specs.Prelude.{ℕ, ◌-◌, Bool, true, ◌&&◌, List, [], ◌∷◌, ◌++◌, map, length, replicate, slice_set, slice_index_or, Option, Some, None, if◌then◌else◌}
-use Rattle.monomials.specs.Monomials.{Monomial, one, minus}
+use Rattle.monomials.specs.Monomials.{Monomial, one}
 use Rattle.monomials.specs.Orders.{order_cmp}
 use Rattle.monomials.specs.Polynomials.{Polynomial, poly_add, poly_sub, poly_scale}
-use Rattle.monomials.specs.Leading.{leading_monomial, leading_coefficient}
 use Rattle.word_model.specs.Words.{Algebra}
 use Rattle.word_model.specs.Products.{product, in_reach}
-use Rattle.word_model.specs.Reduction.{element, multiple, quotient}
-use Rattle.word_model.specs.Jobs.{pair_lcm}
+use Rattle.word_model.specs.Reduction.{element, multiple}
+use Rattle.word_model.specs.Jobs.{first_cofactor, second_cofactor, second_number}
 use Rattle.word_model.specs.Machine.{Journal}
 use Rattle.word_model.specs.Finished.{FinishedList}
 use Rattle.word_model.specs.declared.records.Job.{Job}
@@ -46,26 +45,15 @@ row_multiple A c m row = map (multiple A c m) row
 abbrev pub row_at : List Row → ℕ → Row
 row_at R i = slice_index_or R (i - 1) []
 
--- the monomials by which the S-polynomial of the elements of numbers i and j multiplies the first and the second
-abbrev pub first_cofactor : List Polynomial → ℕ → ℕ → Monomial
-first_cofactor G i j = minus (pair_lcm G i j) (leading_monomial (element G i))
-
-abbrev pub second_cofactor : List Polynomial → ℕ → ℕ → Monomial
-second_cofactor G i j = minus (pair_lcm G i j) (leading_monomial (element G j))
-
--- and the number by which it multiplies the second, so that the leading terms cancel
-abbrev pub second_number : Algebra → List Polynomial → ℕ → ℕ → ℕ
-second_number A G i j =
-    quotient A.p (leading_coefficient (multiple A 1 (first_cofactor G i j) (element G i)))
-    (leading_coefficient (multiple A 1 (second_cofactor G i j) (element G j)))
-
 -- The row of a job's start, made as the start is, with the rows R of the elements G in place of the elements. Left runs
 -- have no products on the right.
 abbrev pub start_row : Algebra → ℕ → List Polynomial → List Row → Job → Row
 start_row A g G R (Seed s) = unit_row A g s
 start_row A g G R (Pair i j) =
-    row_sub A (row_multiple A 1 (first_cofactor G i j) (row_at R i))
-    (row_multiple A (second_number A G i j) (second_cofactor G i j) (row_at R j))
+    let f : Polynomial = element G i in
+    let h : Polynomial = element G j in
+    row_sub A (row_multiple A 1 (first_cofactor f h) (row_at R i))
+    (row_multiple A (second_number A f h) (second_cofactor f h) (row_at R j))
 start_row A g G R (Right i v) = []
 
 -- a row less the multiples of the rows R that the steps name
@@ -108,7 +96,9 @@ steps_reach R (s ∷ trace) = multiple_reaches s.mono (row_at R s.index) && step
 
 -- whether those of a start are
 abbrev pub start_reaches : List Polynomial → List Row → Job → Bool
-start_reaches G R (Pair i j) = multiple_reaches (first_cofactor G i j) (row_at R i) && multiple_reaches (second_cofactor G i j) (row_at R j)
+start_reaches G R (Pair i j) =
+    multiple_reaches (first_cofactor (element G i) (element G j)) (row_at R i)
+    && multiple_reaches (second_cofactor (element G i) (element G j)) (row_at R j)
 start_reaches G R _ = true
 
 -- whether those of all elements are that these entries add, where R are the rows of all

@@ -89,22 +89,33 @@ least_job A gens G sugars job (other ∷ queue) =
 
 -- ---- starts
 
--- the S-polynomial: of the multiples of f and g that reach the lcm of their leading monomials, the first less the
--- multiple of the second that cancels its leading term
+-- the monomials by which the S-polynomial of f and g multiplies f and g, so that both reach the lcm of their leading
+-- monomials
+abbrev pub first_cofactor : Polynomial → Polynomial → Monomial
+first_cofactor f g = minus (lcm (leading_monomial f) (leading_monomial g)) (leading_monomial f)
+
+abbrev pub second_cofactor : Polynomial → Polynomial → Monomial
+second_cofactor f g = minus (lcm (leading_monomial f) (leading_monomial g)) (leading_monomial g)
+
+-- and the number by which it multiplies g, so that the leading terms cancel
+abbrev pub second_number : Algebra → Polynomial → Polynomial → ℕ
+second_number A f g =
+    quotient A.p (leading_coefficient (multiple A 1 (first_cofactor f g) f))
+    (leading_coefficient (multiple A 1 (second_cofactor f g) g))
+
+-- the S-polynomial: the difference of these multiples
 abbrev pub s_polynomial : Algebra → Polynomial → Polynomial → Polynomial
 s_polynomial A f g =
-    let l : Monomial = lcm (leading_monomial f) (leading_monomial g) in
-    let a : Monomial = minus l (leading_monomial f) in
-    let b : Monomial = minus l (leading_monomial g) in
-    let k : ℕ = quotient A.p (leading_coefficient (multiple A 1 a f)) (leading_coefficient (multiple A 1 b g)) in
-    poly_sub (order_cmp A.order.rows) A.p (multiple A 1 a f) (multiple A k b g)
+    poly_sub (order_cmp A.order.rows) A.p (multiple A 1 (first_cofactor f g) f)
+    (multiple A (second_number A f g) (second_cofactor f g) g)
 
--- whether both products of a pair's S-polynomial are computed
+-- whether both its products are computed
+abbrev pub both_within : Polynomial → Polynomial → Bool
+both_within f g = is_within (first_cofactor f g) f && is_within (second_cofactor f g) g
+
+-- whether those of a pair's S-polynomial are
 abbrev pub pair_within : List Polynomial → ℕ → ℕ → Bool
-pair_within G i j =
-    let l : Monomial = pair_lcm G i j in
-    is_within (minus l (leading_monomial (element G i))) (element G i)
-    && is_within (minus l (leading_monomial (element G j))) (element G j)
+pair_within G i j = both_within (element G i) (element G j)
 
 -- the start polynomial of a job, where its products are computed
 unfoldable pub start_of : Algebra → List Polynomial → List Polynomial → Job → Option Polynomial

@@ -1,6 +1,5 @@
 -- Sums of words as the program keeps them.
 use Rattle.std.specs.Prelude.{ℕ, ◌*◌, ◌%◌, ◌<◌, ◌≤◌, List, [], ◌∷◌, ◌++◌, map, length}
-use Rattle.monomials.specs.Monomials.{Monomial}
 use Rattle.monomials.specs.Polynomials.{Polynomial, Each}
 use Rattle.word_model.specs.Words.{Algebra, Word, WordSum, IsWord, Descent, sorted_word, c_of, d_of}
 use Rattle.word_model.specs.Conditions.{times_words}

@@ -1,4 +1,4 @@
-use Rattle.std.proofs.Common.{◌≡◌, ℕ, ◌*◌, ◌-◌, ◌/◌, ◌∙◌, length, replicate, sym, ap}
+use Rattle.std.proofs.Common.{◌≡◌, ℕ, ◌*◌, ◌-◌, ◌/◌, ◌∙◌, length, sym, ap}
 use Rattle.std.proofs.Math.ListN.{length-replicate}
 use Rattle.algebra.proofs.Commuting.{pairs_twice, commuting_passed}
 use Rattle.algebra.proofs.Algebra.commuting.Goals as goal

@@ -1,8 +1,5 @@
-use Rattle.std.proofs.Common.{◌≡◌, ◌∙◌, ◌↔◌, false, true, refl, sym}
-use Rattle.monomials.specs.Orders.{order_cmp}
-use Rattle.monomials.specs.Polynomials.{HasNumbers, HasVars, IsPolynomial}
+use Rattle.std.proofs.Common.{◌≡◌, ◌∙◌, false, true, refl, sym}
 use Rattle.gpoly.specs.Terms.{pairs_of}
-use Rattle.algebra.specs.Inside.Falling.{IsStrictlyFalling}
 use Rattle.algebra.proofs.Fitting.{fits_by}
 use Rattle.algebra.proofs.Algebra.fits.Goals as goal
 

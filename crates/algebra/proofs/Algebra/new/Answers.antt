@@ -1,6 +1,6 @@
 use Rattle.std.proofs.Common.{◌≡◌, ◌*◌, ◌-◌, ◌∙◌, None, sym, ap, subst}
 use Rattle.std.proofs.lemmas.Result.{err_from_is_err_and}
-use Rattle.word_model.specs.Words.{Algebra, RewritesDown}
+use Rattle.word_model.specs.Words.{Algebra}
 use Rattle.word_model.specs.Conditions.{relations_fault, IsAlgebraData}
 use Rattle.word_model.proofs.Faults.{pairs_passed}
 use Rattle.word_model.proofs.Acceptance.{RewritesDown-passed}

@@ -1,12 +1,9 @@
-use Rattle.std.proofs.Common.{◌≡◌, ◌+◌, ◌<◌, ◌≤◌, ◌∙◌, ◌∷◌, [], List, length, take, sym, ap, subst, subst₂, arith, ℕ}
-use Rattle.std.proofs.lemmas.List.{take_all}
+use Rattle.std.proofs.Common.{◌≡◌, ◌<◌, ◌∙◌, length, sym, ap, subst, subst₂, arith, ℕ}
 use Rattle.monomials.specs.Monomials.{degree}
 use Rattle.monomials.specs.Orders.{RowOrder, order_cmp}
 use Rattle.monomials.specs.Polynomials.{HasNumbers, HasVars, IsPolynomial, poly_add, poly_degree}
 use Rattle.monomials.proofs.Operations.{HasNumbers-canonical}
-use Rattle.gpoly.specs.Terms.{pair_of, pairs_of}
 use Rattle.gpoly.proofs.TermLists.{numbers_at, vars_at}
-use Rattle.word_model.specs.Products.{product}
 use Rattle.word_model.proofs.TermProducts.{product-zero}
 use Rattle.algebra.proofs.Letterwise.{degree_at, product_more}
 use Rattle.algebra.proofs.Algebra.product_within.Goals as goal

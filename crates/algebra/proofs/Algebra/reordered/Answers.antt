@@ -1,12 +1,10 @@
 use Rattle.std.proofs.Common.{◌≡◌, ◌∙◌, None, sym, ap, subst}
 use Rattle.std.proofs.lemmas.Result.{err_from_is_err_and}
-use Rattle.monomials.specs.Orders.{order_cmp}
-use Rattle.monomials.specs.Polynomials.{from_terms}
 use Rattle.word_model.specs.Words.{Algebra, normal_form}
-use Rattle.word_model.specs.Conditions.{pairs_fault, triples_fault, relations_fault}
+use Rattle.word_model.specs.Conditions.{pairs_fault, relations_fault}
 use Rattle.word_model.specs.Products.{product}
 use Rattle.algebra.specs.Faults.{IsReported}
-use Rattle.algebra.specs.Reordered.{reordered, ReportsOrdering}
+use Rattle.algebra.specs.Reordered.{reordered}
 use Rattle.algebra.proofs.Testing.{relations_passed}
 use Rattle.algebra.proofs.SortedAnew.{normal_form-reordered, product-reordered}
 use Rattle.algebra.proofs.OrderFaults.{ReportsOrdering-pairs, triples_fault-reordered}

@@ -1,12 +1,11 @@
-use Rattle.std.proofs.Common.{◌≡◌, ℕ, ◌+◌, ◌<◌, ◌≤◌, ◌∙◌, List, ◌∷◌, [], length, drop, get_or, sym, ap, subst, arith, append-nil}
+use Rattle.std.proofs.Common.{◌≡◌, ℕ, ◌<◌, ◌≤◌, ◌∙◌, [], length, drop, get_or, sym, ap, subst, arith, append-nil}
 use Rattle.std.proofs.lemmas.List.{drop_all}
 use Rattle.monomials.specs.Orders.{order_cmp}
 use Rattle.monomials.specs.Polynomials.{HasNumbers, IsPolynomial, poly_degree, poly_scale}
 use Rattle.monomials.proofs.Operations.{HasNumbers-canonical}
-use Rattle.gpoly.specs.Terms.{pair_of}
 use Rattle.gpoly.proofs.Lists.{Each-get_or}
 use Rattle.word_model.specs.Words.{IsWord, sorted_word}
-use Rattle.word_model.specs.Products.{product, times_letters}
+use Rattle.word_model.specs.Products.{times_letters}
 use Rattle.word_model.proofs.Letters.{IsWord-sorted_word, length-word_from}
 use Rattle.word_model.proofs.TermProducts.{product-term}
 use Rattle.algebra.proofs.Letterwise.{poly_degree-poly_scale, letters_more, degree_more}

@@ -1,4 +1,4 @@
-use Rattle.std.proofs.Common.{◌≡◌, ◌<◌, ◌-◌, length, arith}
+use Rattle.std.proofs.Common.{◌-◌, arith}
 use Rattle.gpoly.proofs.TermLists.{vars_at}
 use Rattle.algebra.proofs.Fitting.{falling_end}
 use Rattle.algebra.proofs.comparing.is_falling.Goals as goal

@@ -1,9 +1,8 @@
-use Rattle.std.proofs.Common.{◌≡◌, ◌∙◌, sym, ap, subst, length, arith}
+use Rattle.std.proofs.Common.{sym, ap, subst, length, arith}
 use Rattle.monomials.specs.Orders.{order_cmp}
 use Rattle.monomials.specs.Polynomials.{HasNumbers, IsPolynomial}
 use Rattle.monomials.proofs.Operations.{HasNumbers-canonical}
 use Rattle.gpoly.proofs.Lists.{Each-get_or}
-use Rattle.word_model.specs.Conditions.{IsAlgebraData}
 use Rattle.algebra.proofs.presentation.Presentation.d.Goals as goal
 
 pub returns-clause-numbers : goal.returns-clause-numbers

@@ -1,7 +1,6 @@
-use Rattle.std.proofs.Common.{◌≡◌, ℕ, ◌+◌, ◌-◌, ◌*◌, ◌%◌, ◌<◌, ◌≤◌, ◌∙◌, ◌++◌, ◌∷◌, [], refl, sym, ap, arith}
-use Rattle.monomials.specs.Polynomials.{Polynomial}
+use Rattle.std.proofs.Common.{◌≡◌, ℕ, ◌-◌, ◌*◌, ◌%◌, ◌<◌, ◌≤◌, ◌∙◌, ◌++◌, ◌∷◌, [], refl, ap, arith}
 use Rattle.monomials.proofs.Modulo.{Same, same_refl, same_mul, same_rest}
-use Rattle.word_model.specs.Words.{Algebra, WordSum, sorted_word, c_of, d_of}
+use Rattle.word_model.specs.Words.{Algebra, sorted_word, c_of, d_of}
 use Rattle.word_model.specs.Conditions.{times_words}
 use Rattle.algebra.specs.Inside.WordSums.{words_of}
 use Rattle.algebra.proofs.OverlapSums.{same_negative, pushed, with_first, with_last}

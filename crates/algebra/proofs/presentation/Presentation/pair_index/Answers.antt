@@ -1,4 +1,4 @@
-use Rattle.std.proofs.Common.{◌≡◌, ℕ, ◌-◌, ◌*◌, ◌∙◌, sym, ap, subst, arith, length}
+use Rattle.std.proofs.Common.{◌≡◌, ◌-◌, ◌*◌, ◌∙◌, sym, ap, subst, arith, length}
 use Rattle.word_model.specs.Conditions.{IsAlgebraData}
 use Rattle.algebra.proofs.presentation.Presentation.pair_index.Goals as goal
 use Rattle.algebra.proofs.presentation.Presentation.pair_index.Goals.{After-pair_index}

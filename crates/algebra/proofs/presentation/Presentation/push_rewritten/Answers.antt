@@ -1,4 +1,4 @@
-use Rattle.std.proofs.Common.{◌≡◌, ℕ, suc, ◌+◌, ◌-◌, ◌*◌, List, Some, ◌%◌, ◌<◌, ◌∙◌, ◌++◌, ◌∷◌, [], length, get_or, drop, take, sym, ap, subst, arith}
+use Rattle.std.proofs.Common.{◌≡◌, ℕ, suc, ◌+◌, ◌-◌, ◌*◌, List, Some, ◌%◌, ◌<◌, ◌∙◌, ◌++◌, length, get_or, drop, take, ap, arith}
 use Rattle.std.specs.List.{swap}
 use Rattle.std.proofs.lemmas.List.{take_rest}
 use Rattle.std.proofs.lemmas.Grind.{get_or_default_zero}
@@ -6,7 +6,7 @@ use Rattle.word_model.specs.Words.{Algebra, Descent, leftmost_descent, d_of, c_o
 use Rattle.word_model.proofs.Descents.{found_descent}
 use Rattle.algebra.specs.declared.rewriting.WordTerm.{WordTerm}
 use Rattle.algebra.specs.Inside.Places.{descent_at, with_swapped}
-use Rattle.algebra.specs.Inside.WordSums.{words_of, numbered_word, reduced, between, replacement}
+use Rattle.algebra.specs.Inside.WordSums.{words_of, reduced, between}
 use Rattle.algebra.proofs.Places.{swap-side_by_side}
 use Rattle.algebra.proofs.Sums.{push_replacement}
 use Rattle.algebra.proofs.presentation.Presentation.push_rewritten.Goals as goal

@@ -1,4 +1,4 @@
-use Rattle.std.proofs.Common.{◌≡◌, ℕ, ◌<◌, ◌≤◌, ◌%◌, ◌∙◌, ◌++◌, List, [], ◌∷◌, ◌-◌, length, take, vec_len, Some, None, sym, ap, subst, subst₂, refl, arith}
+use Rattle.std.proofs.Common.{◌≡◌, ℕ, ◌≤◌, ◌∙◌, ◌++◌, [], ◌∷◌, ◌-◌, length, take, vec_len, Some, None, sym, ap, subst, subst₂, arith}
 use Rattle.std.proofs.lemmas.List.{map-append}
 use Rattle.monomials.proofs.Keys.{Each-second}
 use Rattle.gpoly.specs.Terms.{pair_of, pairs_of}

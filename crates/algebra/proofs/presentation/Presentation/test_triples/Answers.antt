@@ -1,4 +1,4 @@
-use Rattle.std.proofs.Common.{suc, ◌-◌, arith}
+use Rattle.std.proofs.Common.{arith}
 use Rattle.std.proofs.lemmas.Result.{err_from_is_err_and}
 use Rattle.algebra.specs.Inside.Tests.{plane_fault}
 use Rattle.word_model.proofs.Faults.{first_from-none}

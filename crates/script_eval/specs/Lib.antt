@@ -1,2 +1,4 @@
+pub mod Going
 pub mod Leads
 pub mod Seats
+pub mod Sessions

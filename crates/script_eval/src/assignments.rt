@@ -23,7 +23,7 @@ use script_values::{Environment, Stop};
 
 /// The values take the place of the value of this name: for an ideal polys and ideals, and else one value of its kind.
 pub fn assign<E: Engine>(
-    session: Session,
+    session: &Session,
     engine: &mut E,
     seat: &mut TableSeat,
     environment: &mut Environment,
@@ -34,14 +34,14 @@ pub fn assign<E: Engine>(
     requires seat { IsSeatOf seat.old.algebra environment.old }
     ensures ready { E.can_run engine.new }
     ensures seat { seat.new.algebra ≡ seat.old.algebra }
-    ensures leads { Leads result environment.new (spec.assigned session.bytes.now session.budget environment.old (text_of session.bytes.now name.now) (exprs_of given.now)) }
+    ensures leads { Leads result environment.new (spec.assigned session.now.bytes session.now.budget environment.old (text_of session.now.bytes name.now) (exprs_of given.now)) }
 {
     Err(Stop::Memory)
 }
 
 /// The poly becomes the entry of the matrix of this name in this row and column, which count from 1.
 pub fn assign_entry<E: Engine>(
-    session: Session,
+    session: &Session,
     engine: &mut E,
     seat: &mut TableSeat,
     environment: &mut Environment,
@@ -54,7 +54,7 @@ pub fn assign_entry<E: Engine>(
     requires seat { IsSeatOf seat.old.algebra environment.old }
     ensures ready { E.can_run engine.new }
     ensures seat { seat.new.algebra ≡ seat.old.algebra }
-    ensures leads { Leads result environment.new (spec.entry_assigned session.bytes.now session.budget environment.old (text_of session.bytes.now name.now) (number_in session.bytes.now row.now) (number_in session.bytes.now column.now) given.now) }
+    ensures leads { Leads result environment.new (spec.entry_assigned session.now.bytes session.now.budget environment.old (text_of session.now.bytes name.now) (number_in session.now.bytes row.now) (number_in session.now.bytes column.now) given.now) }
 {
     Err(Stop::Memory)
 }

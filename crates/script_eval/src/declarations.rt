@@ -24,7 +24,7 @@ use sqlite_items::Boxed;
 
 /// A value of any kind but a ring.
 pub fn def<E: Engine>(
-    session: Session,
+    session: &Session,
     engine: &mut E,
     seat: &mut TableSeat,
     environment: &mut Environment,
@@ -35,15 +35,15 @@ pub fn def<E: Engine>(
     requires seat { IsSeatOf seat.old.algebra environment.old }
     ensures ready { E.can_run engine.new }
     ensures seat { seat.new.algebra ≡ seat.old.algebra }
-    ensures leads { Leads result environment.new (spec.declared session.bytes.now session.budget environment.old (text_of session.bytes.now name.now)
-        (spec.any_value session.bytes.now session.budget environment.old given.now)) }
+    ensures leads { Leads result environment.new (spec.declared session.now.bytes session.now.budget environment.old (text_of session.now.bytes name.now)
+        (spec.any_value session.now.bytes session.now.budget environment.old given.now)) }
 {
     Err(Stop::Memory)
 }
 
 /// A poly, 0 where none is given.
 pub fn poly<E: Engine>(
-    session: Session,
+    session: &Session,
     engine: &mut E,
     seat: &mut TableSeat,
     environment: &mut Environment,
@@ -54,15 +54,15 @@ pub fn poly<E: Engine>(
     requires seat { IsSeatOf seat.old.algebra environment.old }
     ensures ready { E.can_run engine.new }
     ensures seat { seat.new.algebra ≡ seat.old.algebra }
-    ensures leads { Leads result environment.new (spec.declared session.bytes.now session.budget environment.old (text_of session.bytes.now name.now)
-        (λ R. spec.by_value session.bytes.now session.budget environment.old (variant.Poly []) spec.as_poly R given.now)) }
+    ensures leads { Leads result environment.new (spec.declared session.now.bytes session.now.budget environment.old (text_of session.now.bytes name.now)
+        (λ R. spec.by_value session.now.bytes session.now.budget environment.old (variant.Poly []) spec.as_poly R given.now)) }
 {
     Err(Stop::Memory)
 }
 
 /// An ideal of polys and ideals, joined in order; the zero poly where none is given.
 pub fn ideal<E: Engine>(
-    session: Session,
+    session: &Session,
     engine: &mut E,
     seat: &mut TableSeat,
     environment: &mut Environment,
@@ -73,15 +73,15 @@ pub fn ideal<E: Engine>(
     requires seat { IsSeatOf seat.old.algebra environment.old }
     ensures ready { E.can_run engine.new }
     ensures seat { seat.new.algebra ≡ seat.old.algebra }
-    ensures leads { Leads result environment.new (spec.declared session.bytes.now session.budget environment.old (text_of session.bytes.now name.now)
-        (λ R. spec.ideal_values session.bytes.now session.budget environment.old R given.now)) }
+    ensures leads { Leads result environment.new (spec.declared session.now.bytes session.now.budget environment.old (text_of session.now.bytes name.now)
+        (λ R. spec.ideal_values session.now.bytes session.now.budget environment.old R given.now)) }
 {
     Err(Stop::Memory)
 }
 
 /// A module, without rows where none is given.
 pub fn module<E: Engine>(
-    session: Session,
+    session: &Session,
     engine: &mut E,
     seat: &mut TableSeat,
     environment: &mut Environment,
@@ -92,15 +92,15 @@ pub fn module<E: Engine>(
     requires seat { IsSeatOf seat.old.algebra environment.old }
     ensures ready { E.can_run engine.new }
     ensures seat { seat.new.algebra ≡ seat.old.algebra }
-    ensures leads { Leads result environment.new (spec.declared session.bytes.now session.budget environment.old (text_of session.bytes.now name.now)
-        (λ R. spec.by_value session.bytes.now session.budget environment.old (variant.Module []) spec.as_module R given.now)) }
+    ensures leads { Leads result environment.new (spec.declared session.now.bytes session.now.budget environment.old (text_of session.now.bytes name.now)
+        (λ R. spec.by_value session.now.bytes session.now.budget environment.old (variant.Module []) spec.as_module R given.now)) }
 {
     Err(Stop::Memory)
 }
 
 /// A matrix with these sides, filled row by row with polys, and zero where there are none left.
 pub fn matrix<E: Engine>(
-    session: Session,
+    session: &Session,
     engine: &mut E,
     seat: &mut TableSeat,
     environment: &mut Environment,
@@ -113,8 +113,8 @@ pub fn matrix<E: Engine>(
     requires seat { IsSeatOf seat.old.algebra environment.old }
     ensures ready { E.can_run engine.new }
     ensures seat { seat.new.algebra ≡ seat.old.algebra }
-    ensures leads { Leads result environment.new (spec.declared session.bytes.now session.budget environment.old (text_of session.bytes.now name.now)
-        (spec.matrix_value session.bytes.now session.budget environment.old (number_in session.bytes.now rows.now.number) (number_in session.bytes.now columns.now.number) given.now)) }
+    ensures leads { Leads result environment.new (spec.declared session.now.bytes session.now.budget environment.old (text_of session.now.bytes name.now)
+        (spec.matrix_value session.now.bytes session.now.budget environment.old (number_in session.now.bytes rows.now.number) (number_in session.now.bytes columns.now.number) given.now)) }
 {
     Err(Stop::Memory)
 }

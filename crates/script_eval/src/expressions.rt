@@ -1,6 +1,6 @@
 //! The values of expressions.
 
-ghost use Rattle.std.specs.Prelude.{IfOk};
+ghost use Rattle.std.specs.Prelude.{◌≡◌, IfOk};
 ghost use Rattle.monomials.specs.Polynomials.{Each, IsPolynomial};
 ghost use Rattle.word_model.specs.Words.{Algebra};
 ghost use Rattle.script_model.specs.Operations.{poly_of as poly_of_value};
@@ -31,7 +31,8 @@ pub fn value<E: Engine>(
     engine: &mut E,
     seat: &mut TableSeat,
     levels: u32,
-    expr: &Expr) -> Result<Value, Stop>
+    expr: &Expr,
+) -> Result<Value, Stop>
     requires ready { E.can_run engine.old }
     requires seat { seat.old.algebra ≡ scope.now.ring.algebra }
     ensures value { Gives result (spec.value_within scope.now levels expr.now) }
@@ -52,7 +53,8 @@ fn expression<E: Engine>(
     engine: &mut E,
     seat: &mut TableSeat,
     levels: u32,
-    expr: &Expr) -> Result<Value, Stop>
+    expr: &Expr,
+) -> Result<Value, Stop>
     requires ready { E.can_run engine.old }
     requires seat { seat.old.algebra ≡ scope.now.ring.algebra }
     ensures value { Gives result (spec.expr_value scope.now (spec.value_within scope.now levels) expr.now) }
@@ -75,7 +77,9 @@ fn with_added<E: Engine>(
     engine: &mut E,
     seat: &mut TableSeat,
     levels: u32,
-    sum: Value, added: &Added) -> Result<Value, Stop>
+    sum: Value,
+    added: &Added,
+) -> Result<Value, Stop>
     requires ready { E.can_run engine.old }
     requires seat { seat.old.algebra ≡ scope.now.ring.algebra }
     requires of_ring { IsValueOf scope.now.ring.algebra sum }
@@ -95,7 +99,8 @@ fn term<E: Engine>(
     engine: &mut E,
     seat: &mut TableSeat,
     levels: u32,
-    term: &Term) -> Result<Value, Stop>
+    term: &Term,
+) -> Result<Value, Stop>
     requires ready { E.can_run engine.old }
     requires seat { seat.old.algebra ≡ scope.now.ring.algebra }
     ensures value { Gives result (spec.term_value scope.now (spec.value_within scope.now levels) term.now) }
@@ -117,7 +122,9 @@ fn scaled_by<E: Engine>(
     engine: &mut E,
     seat: &mut TableSeat,
     levels: u32,
-    product: Value, scaled: &Scaled) -> Result<Value, Stop>
+    product: Value,
+    scaled: &Scaled,
+) -> Result<Value, Stop>
     requires ready { E.can_run engine.old }
     requires seat { seat.old.algebra ≡ scope.now.ring.algebra }
     requires of_ring { IsValueOf scope.now.ring.algebra product }
@@ -142,7 +149,8 @@ fn factor<E: Engine>(
     engine: &mut E,
     seat: &mut TableSeat,
     levels: u32,
-    factor: &Factor) -> Result<Value, Stop>
+    factor: &Factor,
+) -> Result<Value, Stop>
     requires ready { E.can_run engine.old }
     requires seat { seat.old.algebra ≡ scope.now.ring.algebra }
     ensures value { Gives result (spec.factor_value scope.now (spec.value_within scope.now levels) factor.now) }
@@ -161,7 +169,8 @@ fn base<E: Engine>(
     engine: &mut E,
     seat: &mut TableSeat,
     levels: u32,
-    base: &Base) -> Result<Value, Stop>
+    base: &Base,
+) -> Result<Value, Stop>
     requires ready { E.can_run engine.old }
     requires seat { seat.old.algebra ≡ scope.now.ring.algebra }
     ensures value { Gives result (spec.base_value scope.now (spec.value_within scope.now levels) base.now) }
@@ -174,7 +183,9 @@ fn base<E: Engine>(
         Base::Name { name, index } => named(scope, name, index),
         Base::Group { expr, .. } => value(scope, engine, seat, levels, expr.get()),
         Base::Call {
-            name, arguments, ..
+            name,
+            arguments,
+            ..
         } => called(scope, engine, seat, levels, name.function, arguments.get()),
     }
 }
@@ -210,7 +221,8 @@ pub fn all_values<E: Engine>(
     engine: &mut E,
     seat: &mut TableSeat,
     levels: u32,
-    arguments: &ExprList) -> Result<Items<Value>, Stop>
+    arguments: &ExprList,
+) -> Result<Items<Value>, Stop>
     requires ready { E.can_run engine.old }
     requires seat { seat.old.algebra ≡ scope.now.ring.algebra }
     ensures value { Gives result (spec.all_values (spec.value_within scope.now levels) (spec.exprs_of arguments.now)) }

@@ -7,6 +7,7 @@ ghost use Rattle.script_eval.specs.declared.next.Next.TheVariants as next;
 ghost use Rattle.script_eval.specs.Leads.{Leads};
 ghost use Rattle.script_eval.specs.Seats.{IsSeatOf};
 ghost use Rattle.script_names.specs.Named.{HasNames};
+ghost use Rattle.script_model.specs.Orders.{tokens_of};
 
 use crate::assignments::{assign, assign_entry};
 use crate::declarations::{def, ideal, matrix, module, poly};
@@ -28,7 +29,7 @@ use std::alloc::Global;
 /// Does what a statement says.
 #[tactic(auto, unfolding(script_model::specs::Statements::done_by))]
 pub fn done_by<E: Engine>(
-    session: Session,
+    session: &Session,
     engine: &mut E,
     seat: &mut TableSeat,
     environment: &mut Environment,
@@ -36,16 +37,16 @@ pub fn done_by<E: Engine>(
 ) -> Result<Next, Stop>
     requires ready { E.can_run engine.old }
     requires seat { IsSeatOf seat.old.algebra environment.old }
-    requires names { HasNames session.bytes.now statement.now }
+    requires names { HasNames session.now.bytes statement.now }
     ensures ready { E.can_run engine.new }
     ensures seat { seat.new.algebra ≡ seat.old.algebra }
-    ensures leads { Leads result environment.new (spec.done_by session.bytes.now session.budget environment.old statement.now) }
+    ensures leads { Leads result environment.new (spec.done_by session.now.bytes session.now.budget environment.old statement.now) }
 {
     match statement {
         Statement::Empty { .. } | Statement::Short { .. } => Ok(silent(session.alloc)),
         Statement::Quit { .. } => Ok(Next::Quits),
-        Statement::Option { names, .. } => options(session, environment, &names.list),
-        Statement::Print { value, .. } => print(session, engine, seat, environment, value.get()),
+        Statement::Option { names, .. } => options(session, &*environment, &names.list),
+        Statement::Print { value, .. } => print(session, engine, seat, &*environment, value.get()),
         _ => Err(Stop::Memory),
     }
 }
@@ -58,15 +59,15 @@ pub fn silent(alloc: Global) -> Next
 }
 
 // Names of options are tested, and have no effect.
-fn options(session: Session, environment: &Environment, names: &TokenList) -> Result<Next, Stop>
-    ensures { Leads result environment.now (spec.options session.bytes.now session.budget environment.now (spec.tokens_of names.now)) }
+fn options(session: &Session, environment: &Environment, names: &TokenList) -> Result<Next, Stop>
+    ensures { Leads result environment.now (spec.options session.now.bytes session.now.budget environment.now (tokens_of names.now)) }
 {
     Err(Stop::Memory)
 }
 
 // Prints the value of an expression.
 fn print<E: Engine>(
-    session: Session,
+    session: &Session,
     engine: &mut E,
     seat: &mut TableSeat,
     environment: &Environment,
@@ -76,13 +77,9 @@ fn print<E: Engine>(
     requires seat { IsSeatOf seat.old.algebra environment.now }
     ensures ready { E.can_run engine.new }
     ensures seat { seat.new.algebra ≡ seat.old.algebra }
-    ensures leads { Leads result environment.now (spec.print session.bytes.now session.budget environment.now expr.now (here environment.now)) }
+    ensures leads { Leads result environment.now (spec.print session.now.bytes session.now.budget environment.now expr.now (here environment.now)) }
 {
-    let Session {
-        alloc,
-        bytes,
-        budget,
-    } = session;
+    let (alloc, bytes, budget) = (session.alloc, session.bytes, session.budget);
     let Some(ring) = environment.here() else {
         return Err(Stop::Refused(Refusal::NoRing));
     };

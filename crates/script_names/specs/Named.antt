@@ -1,5 +1,5 @@
 -- That the variables of a statement have names.
-use Rattle.std.specs.Prelude.{List, ℕ, Unit}
+use Rattle.std.specs.Prelude.{List, ℕ}
 use Rattle.monomials.specs.Polynomials.{Each}
 use Rattle.plural_syntax.specs.declared.tree.Statement.{Statement}
 use Rattle.plural_syntax.specs.declared.tree.Statement.TheVariants as statement

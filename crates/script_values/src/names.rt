@@ -10,8 +10,8 @@ ghost use Rattle.script_values.specs.Gives.{Gives, Stops};
 ghost use Rattle.script_values.specs.Values.{ArePolynomials, IsValueOf};
 
 use crate::operations::variable;
-use crate::{Scope, Stop};
 use crate::tokens::{number, text};
+use crate::{Scope, Stop};
 use gpoly::GPoly;
 use plural_lexer::Token;
 use plural_syntax::Index;
@@ -84,12 +84,7 @@ fn second_number(bytes: &[u8], index: &Index) -> Option<u64>
 }
 
 // An entry of an ideal or of a matrix.
-fn entry_of(
-    scope: &Scope,
-    value: &Value,
-    first: u64,
-    second: Option<u64>,
-) -> Result<Value, Stop>
+fn entry_of(scope: &Scope, value: &Value, first: u64, second: Option<u64>) -> Result<Value, Stop>
     requires { IsValueOf scope.now.ring.algebra value.now }
     ensures value { Gives result (entry_of value.now first second) }
     ensures of_ring { IfOk result (IsValueOf scope.now.ring.algebra) }

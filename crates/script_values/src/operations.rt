@@ -74,12 +74,7 @@ pub fn added(
 }
 
 /// The product, over the table of the seat.
-pub fn times(
-    alloc: Global,
-    seat: &mut TableSeat,
-    f: &GPoly,
-    g: &GPoly,
-) -> Result<GPoly, Stop>
+pub fn times(alloc: Global, seat: &mut TableSeat, f: &GPoly, g: &GPoly) -> Result<GPoly, Stop>
     requires first { IsPolynomial seat.old.algebra.p seat.old.algebra.order f.now }
     requires second { IsPolynomial seat.old.algebra.p seat.old.algebra.order g.now }
     ensures value { Gives result (times seat.old.algebra f.now g.now) }
@@ -129,12 +124,7 @@ pub fn divided(alloc: Global, algebra: &Algebra, f: &GPoly, number: u64) -> Resu
 }
 
 /// The power, whose exponent is at most 4095.
-pub fn power(
-    alloc: Global,
-    seat: &mut TableSeat,
-    f: &GPoly,
-    exponent: u64,
-) -> Result<GPoly, Stop>
+pub fn power(alloc: Global, seat: &mut TableSeat, f: &GPoly, exponent: u64) -> Result<GPoly, Stop>
     requires { IsPolynomial seat.old.algebra.p seat.old.algebra.order f.now }
     ensures value { Gives result (power seat.old.algebra f.now exponent) }
     ensures polynomial { IfOk result (λ r. IsPolynomial seat.old.algebra.p seat.old.algebra.order r) }
@@ -146,12 +136,7 @@ pub fn power(
     power_of(alloc, seat, f, exponent)
 }
 
-fn power_of(
-    alloc: Global,
-    seat: &mut TableSeat,
-    f: &GPoly,
-    exponent: u64,
-) -> Result<GPoly, Stop>
+fn power_of(alloc: Global, seat: &mut TableSeat, f: &GPoly, exponent: u64) -> Result<GPoly, Stop>
     requires { IsPolynomial seat.old.algebra.p seat.old.algebra.order f.now }
     ensures value { Gives result (power_of seat.old.algebra f.now exponent) }
     ensures polynomial { IfOk result (λ r. IsPolynomial seat.old.algebra.p seat.old.algebra.order r) }

@@ -1,0 +1,4 @@
+pub mod Rows
+pub mod Spellings
+pub mod TokenTexts
+pub mod Walk

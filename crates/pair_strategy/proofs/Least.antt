@@ -1,6 +1,7 @@
 -- The least job of a list is the first of a queue that has the same jobs.
 use Rattle.std.proofs.Common.{◌≡◌, ℕ, ◌⊎◌, inl, inr, ◌||◌, Bool, true, false, List, [], ◌∷◌, if◌then◌else◌, refl, sym, ap, ◌∙◌}
 use Rattle.std.proofs.Common.{Less, is_lt}
+use Rattle.std.proofs.lemmas.Bool.{or_cases, or_right}
 use Rattle.std.specs.Ordering.{nat_cmp, ordering_then}
 use Rattle.monomials.specs.Orders.{order_cmp}
 use Rattle.monomials.specs.Polynomials.{Polynomial, Each}
@@ -11,14 +12,14 @@ use Rattle.pair_strategy.specs.Queues.{keyed_cmp, jobs_in, IsRising, HasKey, Sam
 use Rattle.pair_strategy.specs.declared.keys.Keyed.{Keyed}
 use Rattle.word_model.proofs.JobOrder.{key_total}
 use Rattle.word_model.proofs.JobLists.{same_job-is, same_job-itself}
-use Rattle.pair_strategy.proofs.Ordered.{is_less, one_way}
-use Rattle.pair_strategy.proofs.Members.{either, or_second}
+use Rattle.word_model.proofs.Ranks.{less_is}
+use Rattle.pair_strategy.proofs.Ordered.{one_way}
 
 -- what holds of each job that a list has
-Each-queued : (P : Job → Type 0) (jobs : List Job) → ((job : Job) → is_queued jobs job ≡ true → P job) → Each P jobs
+pub Each-queued : (P : Job → Type 0) (jobs : List Job) → ((job : Job) → is_queued jobs job ≡ true → P job) → Each P jobs
 Each-queued P [] h = tt
 Each-queued P (job ∷ jobs) h =
-    (h job (ap (λ t. t || is_queued jobs job) (same_job-itself job)), Each-queued P jobs (λ other e. h other (or_second (same_job other job) (is_queued jobs other) e)))
+    (h job (ap (λ t. t || is_queued jobs job) (same_job-itself job)), Each-queued P jobs (λ other e. h other (or_right (same_job other job) (is_queued jobs other) e)))
 
 module _ (A : Algebra) (gens G : List Polynomial) (sugars : List ℕ) where
   -- a job that is `first`, or has a greater key
@@ -27,7 +28,7 @@ module _ (A : Algebra) (gens G : List Polynomial) (sugars : List ℕ) where
 
   -- a scan for the least job ends with the one that all others are later than
   scan : (first job : Job) (jobs : List Job) → Each (IsLater first) (job ∷ jobs) → is_queued (job ∷ jobs) first ≡ true → least_job A gens G sugars job jobs ≡ first
-  scan first job [] later there = by (either (same_job first job) false there)
+  scan first job [] later there = by (or_cases (same_job first job) false there)
     where
       by : (same_job first job ≡ true) ⊎ (false ≡ true) → job ≡ first
       by (inl e) = sym (same_job-is first job e)
@@ -41,15 +42,15 @@ module _ (A : Algebra) (gens G : List Polynomial) (sugars : List ℕ) where
           ap (λ t. t || is_queued jobs first) (ap (same_job first) is ∙ same_job-itself first)
       one e (inl h) (inr less) =
           let here : first ≡ job = same_job-is first job h in
-          absurd (one_way (key_total A gens G sugars) first other less (ap (key_cmp A gens G sugars other) here ∙ is_less (key_cmp A gens G sugars other job) e))
+          absurd (one_way (key_total A gens G sugars) first other less (ap (key_cmp A gens G sugars other) here ∙ less_is (key_cmp A gens G sugars other job) e))
 
       another : is_lt (key_cmp A gens G sugars other job) ≡ false → (same_job first job ≡ true) ⊎ (is_queued (other ∷ jobs) first ≡ true) → IsLater first job
           → is_queued (job ∷ jobs) first ≡ true
       another e (inl h) is = ap (λ t. t || is_queued jobs first) h
-      another e (inr h) is = or_there (either (same_job first other) (is_queued jobs first) h) is
+      another e (inr h) is = or_there (or_cases (same_job first other) (is_queued jobs first) h) is
         where
           or_there : (same_job first other ≡ true) ⊎ (is_queued jobs first ≡ true) → IsLater first job → is_queued (job ∷ jobs) first ≡ true
-          or_there (inr behind) is = or_second (same_job first job) (is_queued jobs first) behind
+          or_there (inr behind) is = or_right (same_job first job) (is_queued jobs first) behind
           or_there (inl same) (inl is) = ap (λ t. t || is_queued jobs first) (ap (same_job first) is ∙ same_job-itself first)
           or_there (inl same) (inr less) =
               let here : first ≡ other = same_job-is first other same in
@@ -60,8 +61,8 @@ module _ (A : Algebra) (gens G : List Polynomial) (sugars : List ℕ) where
           → (is_queued (other ∷ jobs) first ≡ true → least_job A gens G sugars other jobs ≡ first)
           → (is_queued (job ∷ jobs) first ≡ true → least_job A gens G sugars job jobs ≡ first)
           → least_job A gens G sugars (if t then other else job) jobs ≡ first
-      by true e with_other with_job = with_other (one e (either (same_job first job) (is_queued (other ∷ jobs) first) there) later.1.0)
-      by false e with_other with_job = with_job (another e (either (same_job first job) (is_queued (other ∷ jobs) first) there) later.0)
+      by true e with_other with_job = with_other (one e (or_cases (same_job first job) (is_queued (other ∷ jobs) first) there) later.1.0)
+      by false e with_other with_job = with_job (another e (or_cases (same_job first job) (is_queued (other ∷ jobs) first) there) later.0)
 
   -- keys by their sugars and monomials are the keys of the jobs
   keyed_is : (a b : Keyed) → HasKey A gens G sugars a → HasKey A gens G sugars b → keyed_cmp A.order a b ≡ key_cmp A gens G sugars a.job b.job
@@ -73,7 +74,7 @@ module _ (A : Algebra) (gens G : List Polynomial) (sugars : List ℕ) where
       → is_queued (jobs_in rest) job ≡ true → key_cmp A gens G sugars first.job job ≡ Less
   behind first [] job key keys less e = cc
   behind first (b ∷ rest) job key keys less e =
-      by (either (same_job job b.job) (is_queued (jobs_in rest) job) e) (behind first rest job key keys.1 less.1)
+      by (or_cases (same_job job b.job) (is_queued (jobs_in rest) job) e) (behind first rest job key keys.1 less.1)
     where
       by : (same_job job b.job ≡ true) ⊎ (is_queued (jobs_in rest) job ≡ true) → (is_queued (jobs_in rest) job ≡ true → key_cmp A gens G sugars first.job job ≡ Less)
           → key_cmp A gens G sugars first.job job ≡ Less
@@ -90,4 +91,4 @@ module _ (A : Algebra) (gens G : List Polynomial) (sugars : List ℕ) where
       by other (inr there) = inr (behind first rest other keys.0 keys.1 rising.0 there)
 
       later : (other : Job) → is_queued (job ∷ jobs) other ≡ true → IsLater first.job other
-      later other e = by other (either (same_job other first.job) (is_queued (jobs_in rest) other) (sym (same other) ∙ e))
+      later other e = by other (or_cases (same_job other first.job) (is_queued (jobs_in rest) other) (sym (same other) ∙ e))

@@ -1,7 +1,7 @@
 mod Ordered
-mod Members
-mod Placing
-mod Least
+pub mod Members
+pub mod Placing
+pub mod Least
 mod Monomials
 mod Witnesses
 mod Changes

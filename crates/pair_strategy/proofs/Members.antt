@@ -1,5 +1,6 @@
 -- Which jobs a list has.
-use Rattle.std.proofs.Common.{◌≡◌, ℕ, zero, suc, ◌||◌, ◌&&◌, not, ◌⊎◌, inl, inr, Bool, true, false, List, [], ◌∷◌, ◌++◌, length, if◌then◌else◌, reverse, nat_lt, refl, sym, ap, ◌∙◌, subst}
+use Rattle.std.proofs.Common.{◌≡◌, ℕ, zero, suc, ◌||◌, ◌&&◌, not, Bool, true, false, List, [], ◌∷◌, ◌++◌, length, if◌then◌else◌, reverse, nat_lt, refl, sym, ap, ◌∙◌, subst}
+use Rattle.std.proofs.lemmas.Bool.{or_parts}
 use Rattle.std.specs.Ordering.{is_lt}
 use Rattle.gpoly.proofs.Lists.{reverse-cons}
 use Rattle.monomials.specs.Orders.{RowOrder}
@@ -13,18 +14,6 @@ use Rattle.pair_strategy.specs.declared.keys.Keyed.{Keyed}
 use Rattle.word_model.proofs.JobLists.{same_job-is, same_job-itself}
 
 -- ---- truth values
-
-pub either : (a b : Bool) → (a || b) ≡ true → (a ≡ true) ⊎ (b ≡ true)
-either true b e = inl refl
-either false b e = inr e
-
-pub or_second : (a b : Bool) → b ≡ true → (a || b) ≡ true
-or_second true b e = refl
-or_second false b e = e
-
-pub neither : (a b : Bool) → (a || b) ≡ false → (a ≡ false) × (b ≡ false)
-neither true b e = cc
-neither false b e = (refl, e)
 
 or_third : (a b c : Bool) → (b || (a || c)) ≡ (a || (b || c))
 or_third true true c = refl
@@ -81,7 +70,7 @@ pub set-with_item : (o : RowOrder) (k : Keyed) (items : List Keyed) → IsSet (j
     → IsSet (jobs_in (with_item o k items))
 set-with_item o k [] set absent = (refl, tt)
 set-with_item o k (b ∷ items) set absent =
-    let parts = neither (same_job k.job b.job) (is_queued (jobs_in items) k.job) absent in
+    let parts = or_parts (same_job k.job b.job) (is_queued (jobs_in items) k.job) absent in
     by (is_lt (keyed_cmp o k b)) parts.0 (set-with_item o k items set.1 parts.1)
   where
     by : (t : Bool) → same_job k.job b.job ≡ false → IsSet (jobs_in (with_item o k items))

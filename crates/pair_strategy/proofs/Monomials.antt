@@ -1,5 +1,5 @@
 -- The monomials of keys, and how many exponents they have.
-use Rattle.std.proofs.Common.{◌≡◌, ◌≢◌, ℕ, ◌<◌, ◌≤◌, List, [], ◌∷◌, length, refl, sym, ap, ◌∙◌, subst, arith}
+use Rattle.std.proofs.Common.{◌≡◌, ◌≢◌, ℕ, ◌<◌, ◌≤◌, List, [], length, sym, ap, ◌∙◌, subst, arith}
 use Rattle.monomials.specs.Monomials.{Monomial, plus, variable}
 use Rattle.monomials.specs.Polynomials.{Polynomial, Each, HasVars}
 use Rattle.monomials.specs.Leading.{leading_monomial}
@@ -10,16 +10,12 @@ use Rattle.word_model.specs.declared.records.Job.{Job}
 use Rattle.word_model.specs.declared.records.Job.TheVariants.{Pair, Right}
 use Rattle.word_model.proofs.Associativity.{length-variable}
 use Rattle.word_model.proofs.LeastNumbers.{Each-element}
-
--- a leading monomial has an exponent for each variable
-leading-vars : (n : ℕ) (f : Polynomial) → HasVars n f → f ≢ [] → length (leading_monomial f) ≡ n
-leading-vars n [] vars nonzero = absurd (nonzero refl)
-leading-vars n (t ∷ f) vars nonzero = vars.0
+use Rattle.word_model.proofs.PairCofactors.{length-leading_monomial}
 
 module _ (n : ℕ) (G : List Polynomial) (vars : Each (HasVars n) G) where
   -- that of the element of number i
   element-vars : (i : ℕ) → 1 ≤ i → i ≤ length G → element G i ≢ [] → length (leading_monomial (element G i)) ≡ n
-  element-vars i low high nonzero = leading-vars n (element G i) (Each-element (HasVars n) G i vars low high) nonzero
+  element-vars i low high nonzero = length-leading_monomial n (element G i) (Each-element (HasVars n) G i vars low high) nonzero
 
   -- the lcm of two of them
   pub pair-vars : (i j : ℕ) → 1 ≤ i → i < j → j ≤ length G → element G i ≢ [] → element G j ≢ [] → length (pair_lcm G i j) ≡ n

@@ -31,11 +31,6 @@ module _ (o : RowOrder) where
 
 -- ---- answers
 
-pub is_less : (r : Ordering) → is_lt r ≡ true → r ≡ Less
-is_less Less e = refl
-is_less Equal e = cc
-is_less Greater e = cc
-
 -- what is neither less nor equal is greater
 pub is_greater : (r : Ordering) → is_lt r ≡ false → r ≢ Equal → r ≡ Greater
 is_greater Less e other = cc

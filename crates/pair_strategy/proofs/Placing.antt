@@ -2,16 +2,17 @@
 use Rattle.std.proofs.Common.{◌≡◌, ℕ, ◌+◌, ◌<◌, Bool, true, false, List, [], ◌∷◌, ◌++◌, length, reverse, take, drop, get_or, if◌then◌else◌, refl, sym, ap, ◌∙◌, subst, add-one, drop-cons, append_assoc}
 use Rattle.std.proofs.Common.{Less, Greater, is_lt}
 use Rattle.std.specs.Prelude.{insert}
+use Rattle.std.proofs.lemmas.Bool.{or_parts}
 use Rattle.std.proofs.lemmas.List.{reverse-append, take_more, take-append-drop}
 use Rattle.gpoly.proofs.Lists.{reverse-cons, Each-reverse, Each-reversed}
 use Rattle.monomials.specs.Orders.{RowOrder}
 use Rattle.monomials.specs.Polynomials.{Each}
 use Rattle.monomials.proofs.Keys.{Each-append, Each-weaker}
 use Rattle.word_model.specs.Jobs.{same_job, is_queued}
+use Rattle.word_model.proofs.Ranks.{less_is}
 use Rattle.pair_strategy.specs.Queues.{keyed_cmp, jobs_in, with_item, IsRising}
 use Rattle.pair_strategy.specs.declared.keys.Keyed.{Keyed}
-use Rattle.pair_strategy.proofs.Ordered.{keyed_total, keys_differ, is_less, is_greater, not_less, below}
-use Rattle.pair_strategy.proofs.Members.{neither}
+use Rattle.pair_strategy.proofs.Ordered.{keyed_total, keys_differ, is_greater, not_less, below}
 
 -- ---- lists
 
@@ -50,13 +51,13 @@ module _ (o : RowOrder) where
   pub rising-with_item : (a : Keyed) (items : List Keyed) → IsRising o items → is_queued (jobs_in items) a.job ≡ false → IsRising o (with_item o a items)
   rising-with_item a [] rising absent = (tt, tt)
   rising-with_item a (b ∷ items) rising absent =
-      let parts = neither (same_job a.job b.job) (is_queued (jobs_in items) a.job) absent in
+      let parts = or_parts (same_job a.job b.job) (is_queued (jobs_in items) a.job) absent in
       by (is_lt (keyed_cmp o a b)) refl parts.0 (rising-with_item a items rising.1 parts.1)
     where
       by : (t : Bool) → is_lt (keyed_cmp o a b) ≡ t → same_job a.job b.job ≡ false → IsRising o (with_item o a items)
           → IsRising o (if t then a ∷ b ∷ items else b ∷ with_item o a items)
       by true e other ih =
-          let less : keyed_cmp o a b ≡ Less = is_less (keyed_cmp o a b) e in
+          let less : keyed_cmp o a b ≡ Less = less_is (keyed_cmp o a b) e in
           ((less, Each-weaker (λ c. keyed_cmp o b c ≡ Less) (λ c. keyed_cmp o a c ≡ Less) (λ c h. (keyed_total o).trans a b c less h) items rising.0), rising)
       by false e other ih =
           let greater : keyed_cmp o a b ≡ Greater = is_greater (keyed_cmp o a b) e (keys_differ o a b other) in
@@ -93,7 +94,7 @@ module _ (o : RowOrder) where
     pub less_up_to : is_lt (keyed_cmp o a (get_or v i d)) ≡ true → Each (λ b. is_lt (keyed_cmp o a b) ≡ true) (take (i + 1) v)
     less_up_to e =
         let x : Keyed = get_or v i d in
-        let less : keyed_cmp o a x ≡ Less = is_less (keyed_cmp o a x) e in
+        let less : keyed_cmp o a x ≡ Less = less_is (keyed_cmp o a x) e in
         let before : Each (λ y. keyed_cmp o x y ≡ Less) (take i v) = Each-reversed (λ y. keyed_cmp o x y ≡ Less) (take i v) around.1 in
         subst (Each (λ b. is_lt (keyed_cmp o a b) ≡ true)) (sym (take_more v i d low))
         (Each-append (λ b. is_lt (keyed_cmp o a b) ≡ true) (take i v) (x ∷ [])

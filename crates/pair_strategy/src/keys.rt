@@ -97,7 +97,7 @@ fn pair_sugar<B: Elements>(basis: &B, sugars: &[u32], i: u32, j: u32) -> u32
     ensures value { result ≡ job_sugar [] (B.elements basis.now) sugars.now (Job.Pair i j) }
     ensures most { (b : ℕ) → Each (λ n. n ≤ b) sugars.now → result ≤ b + 4095 }
 {
-    let lcm = lead(basis.at(i)).lcm(&lead(basis.at(j)));
+    let lcm = basis.at(i).lead().mono.lcm(&basis.at(j).lead().mono);
     let first = excess(basis, sugars, i);
     let second = excess(basis, sugars, j);
     lcm.degree() + first.max(second)
@@ -113,7 +113,7 @@ fn excess<B: Elements>(basis: &B, sugars: &[u32], i: u32) -> u32
     ensures sum { result + degree (leading_monomial (element (B.elements basis.now) i)) ≡ sugar_at sugars.now i }
     ensures lead { degree (leading_monomial (element (B.elements basis.now) i)) ≤ 4095 }
 {
-    sugars[i as usize - 1] - lead(basis.at(i)).degree()
+    sugars[i as usize - 1] - basis.at(i).lead().mono.degree()
 }
 
 // The monomial of a job's key.
@@ -127,22 +127,13 @@ fn key_monomial<B: Elements>(basis: &B, gens: &[GPoly], job: &Job) -> Expo
         length result ≡ n }
 {
     match *job {
-        Job::Seed { s } => lead(&gens[s as usize - 1]),
-        Job::Pair { i, j } => lead(basis.at(i)).lcm(&lead(basis.at(j))),
+        Job::Seed { s } => gens[s as usize - 1].lead().mono,
+        Job::Pair { i, j } => basis.at(i).lead().mono.lcm(&basis.at(j).lead().mono),
         Job::Right { i, v } => {
-            let lead = lead(basis.at(i));
+            let lead = &basis.at(i).lead().mono;
             lead.plus(&Expo::var(lead.len(), v))
         }
     }
-}
-
-// The leading monomial.
-pub fn lead(poly: &GPoly) -> Expo
-    requires nonzero { poly.now ≢ [] }
-    ensures value { result ≡ leading_monomial poly.now }
-    ensures small { degree result ≤ 4095 }
-{
-    poly.terms()[0].mono
 }
 
 // What orders jobs of equal sugars and monomials: their kind, and then their numbers.

@@ -2,13 +2,11 @@
 
 ghost use Rattle.std.specs.Prelude.{◌≡◌, ◌≢◌, ℕ, ◌≤◌, ◌<◌, [], length, nat_lt, if◌then◌else◌};
 ghost use Rattle.monomials.specs.Polynomials.{Each, HasVars};
-ghost use Rattle.word_model.specs.Reduction.{element, lead_divides};
+ghost use Rattle.word_model.specs.Reduction.{element};
 ghost use Rattle.word_model.specs.Jobs.{pair_lcm, pair_queued, is_witness, chain_witness};
 ghost use Rattle.pair_strategy.specs.Queues.{jobs_in};
 
-use crate::keys;
 use crate::queue::Queue;
-use gpoly::GPoly;
 use monomials::Expo;
 use run_records::{Elements, Job};
 
@@ -25,7 +23,7 @@ pub fn chain_witness<B: Elements>(queue: &Queue, basis: &B, i: u32, j: u32) -> O
     requires j_nonzero { element (B.elements basis.now) j ≢ [] }
     ensures { result ≡ chain_witness (B.elements basis.now) (jobs_in queue.now.items) (Job.Pair i j) }
 {
-    let lcm = keys::lead(basis.at(i)).lcm(&keys::lead(basis.at(j)));
+    let lcm = basis.at(i).lead().mono.lcm(&basis.at(j).lead().mono);
     for k in 1..=basis.count() as u32 {
         if is_witness(queue, basis, &lcm, i, j, k) {
             return Some(k);
@@ -44,20 +42,9 @@ fn is_witness<B: Elements>(queue: &Queue, basis: &B, lcm: &Expo, i: u32, j: u32,
 {
     k != i
         && k != j
-        && lead_divides(basis.at(k), lcm)
+        && basis.at(k).lead_divides(lcm)
         && !pair_queued(queue, k, i)
         && !pair_queued(queue, k, j)
-}
-
-// Whether the element is not zero and its leading monomial divides this one.
-fn lead_divides(element: &GPoly, mono: &Expo) -> bool
-    requires { HasVars (length mono.now) element.now }
-    ensures { result ≡ lead_divides element.now mono.now }
-{
-    match element.leading() {
-        Some(term) => term.mono.divides(mono),
-        None => false,
-    }
 }
 
 // Whether the pair of two elements is queued.

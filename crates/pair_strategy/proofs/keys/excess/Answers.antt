@@ -12,11 +12,11 @@ bounds-sugars-i g c =
 pub overflow_sub-result-2 : goal.overflow_sub-result-2
 overflow_sub-result-2 g c =
     let f = element (g.B.Elements.elements c.args.basis.now) c.args.i in
-    let lead : degree c.lead.result ≡ degree (leading_monomial f) = ap degree (c.lead.ensures.value ∙ ap leading_monomial c.at.ensures) in
+    let lead : degree c.lead.result.now.mono ≡ degree (leading_monomial f) = ap degree (c.lead.ensures.mono ∙ ap leading_monomial c.at.ensures) in
     omega (arith, c.degree.ensures.value, lead, lead_degree f, AreSugars-element (g.B.Elements.elements c.args.basis.now) c.args.sugars.now c.args.i c.requires.sugars)
 
 pub returns-clause-sum : goal.returns-clause-sum
 returns-clause-sum g c =
     let f = element (g.B.Elements.elements c.args.basis.now) c.args.i in
-    let lead : degree c.lead.result ≡ degree (leading_monomial f) = ap degree (c.lead.ensures.value ∙ ap leading_monomial c.at.ensures) in
+    let lead : degree c.lead.result.now.mono ≡ degree (leading_monomial f) = ap degree (c.lead.ensures.mono ∙ ap leading_monomial c.at.ensures) in
     omega (arith, c.degree.ensures.value, lead, lead_degree f, AreSugars-element (g.B.Elements.elements c.args.basis.now) c.args.sugars.now c.args.i c.requires.sugars)

@@ -20,13 +20,13 @@ overflow_add-result g c =
 pub returns-clause-most : goal.returns-clause-most
 returns-clause-most g c = λ b few.
     let G = g.B.Elements.elements c.args.basis.now in
-    let first : degree c.lead.result ≡ degree (leading_monomial (element G c.args.i)) = ap degree (c.lead.ensures.value ∙ ap leading_monomial c.at.ensures) in
-    let second : degree c.lead-2.result ≡ degree (leading_monomial (element G c.args.j)) = ap degree (c.lead-2.ensures.value ∙ ap leading_monomial c.at-2.ensures) in
+    let first : degree c.lead.result.now.mono ≡ degree (leading_monomial (element G c.args.i)) = ap degree (c.lead.ensures.mono ∙ ap leading_monomial c.at.ensures) in
+    let second : degree c.lead-2.result.now.mono ≡ degree (leading_monomial (element G c.args.j)) = ap degree (c.lead-2.ensures.mono ∙ ap leading_monomial c.at-2.ensures) in
     omega (
       arith,
       c.degree.ensures.value,
       ap degree c.lcm-lcm.ensures,
-      degree-lcm c.lead.result c.lead-2.result,
+      degree-lcm c.lead.result.now.mono c.lead-2.result.now.mono,
       first,
       second,
       c.max.ensures,

@@ -12,10 +12,10 @@ use Rattle.pair_strategy.proofs.witness.chain_witness.Goals as goal
 pub is_witness-requires-clause-vars : goal.is_witness-requires-clause-vars
 is_witness-requires-clause-vars g c =
     let G = g.B.Elements.elements c.args.basis.now in
-    let first = c.lead.ensures.value ∙ ap leading_monomial c.at.ensures in
-    let second = c.lead-2.ensures.value ∙ ap leading_monomial c.at-2.ensures in
+    let first : c.lead.result.now.mono ≡ leading_monomial (element G c.args.i) = c.lead.ensures.mono ∙ ap leading_monomial c.at.ensures in
+    let second : c.lead-2.result.now.mono ≡ leading_monomial (element G c.args.j) = c.lead-2.ensures.mono ∙ ap leading_monomial c.at-2.ensures in
     let is : c.lcm-lcm.result ≡ pair_lcm G c.args.i c.args.j =
-    c.lcm-lcm.ensures ∙ ap (λ m. lcm m c.lead-2.result) first ∙ ap (lcm (leading_monomial (element G c.args.i))) second in
+    c.lcm-lcm.ensures ∙ ap (λ m. lcm m c.lead-2.result.now.mono) first ∙ ap (lcm (leading_monomial (element G c.args.i))) second in
     let vars =
     ap length is
     ∙ pair-vars c.requires.vars.0 G c.requires.vars.1 c.args.i c.args.j c.requires.first c.requires.below c.requires.last c.requires.i_nonzero c.requires.j_nonzero in

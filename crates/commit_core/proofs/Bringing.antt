@@ -1,10 +1,8 @@
 -- The jobs that a new element brings, as they are queued.
-use Rattle.std.proofs.Common.{◌≡◌, ◌≢◌, ℕ, zero, suc, ◌+◌, ◌-◌, ◌<◌, ◌≤◌, ◌||◌, ◌&&◌, ◌==◌, Bool, true, false, List, [], ◌∷◌, ◌++◌, length, if◌then◌else◌, refl, sym, ap, ◌∙◌, subst, arith, append_assoc, length-append, drop, Option, Some, None, MatchOption}
+use Rattle.std.proofs.Common.{◌≡◌, ℕ, zero, suc, ◌+◌, ◌-◌, ◌<◌, ◌≤◌, ◌||◌, ◌&&◌, ◌==◌, Bool, true, false, List, [], ◌∷◌, ◌++◌, length, refl, sym, ap, ◌∙◌, subst, arith, append_assoc, length-append, drop, Option, Some, None, MatchOption}
 use Rattle.std.proofs.lemmas.Bool.Decides.{nat_tests}
-use Rattle.std.specs.Ordering.{is_lt}
 use Rattle.monomials.specs.Monomials.{lcm, plus, variable}
 use Rattle.monomials.specs.Leading.{leading_monomial}
-use Rattle.monomials.specs.Orders.{RowOrder}
 use Rattle.monomials.specs.Polynomials.{Polynomial, Each, HasVars, IsPolynomial}
 use Rattle.monomials.proofs.Keys.{Each-weaker}
 use Rattle.word_model.specs.Words.{Algebra}
@@ -18,7 +16,7 @@ use Rattle.word_model.specs.declared.records.Mode.TheVariants.{Left, TwoSided}
 use Rattle.word_model.proofs.LeastNumbers.{Each-element}
 use Rattle.word_model.proofs.Steps.{element-append}
 use Rattle.word_model.proofs.Sugars.{job_sugar-append}
-use Rattle.pair_strategy.specs.Queues.{JobQueue, keyed_cmp, jobs_in, with_item, HasKey, SameJobs}
+use Rattle.pair_strategy.specs.Queues.{JobQueue, jobs_in, HasKey, SameJobs}
 use Rattle.pair_strategy.specs.declared.keys.Keyed.{Keyed}
 use Rattle.commit_core.specs.Named.{IsNamed}
 
@@ -84,15 +82,6 @@ same-more old list q new job same added other =
     turn true false = refl
     turn false true = refl
     turn false false = refl
-
--- what holds of an item and of a list holds of the list with it
-pub Each-with_item : (P : Keyed → Type 0) (o : RowOrder) (k : Keyed) (items : List Keyed) → P k → Each P items → Each P (with_item o k items)
-Each-with_item P o k [] here h = (here, tt)
-Each-with_item P o k (b ∷ items) here h = by (is_lt (keyed_cmp o k b)) (Each-with_item P o k items here h.1)
-  where
-    by : (t : Bool) → Each P (with_item o k items) → Each P (if t then k ∷ b ∷ items else b ∷ with_item o k items)
-    by true ih = (here, h)
-    by false ih = (h.0, ih)
 
 -- ---- a new element is in no job yet
 

@@ -1,5 +1,5 @@
 -- A lead and the machine: the turn of each state that a lead is at, and where the lead is after it.
-use Rattle.std.proofs.Common.{◌≡◌, ◌≢◌, ℕ, suc, ◌+◌, ◌*◌, ◌<◌, ◌≤◌, nat_le, ◌||◌, ◌&&◌, ◌==◌, ◌⊎◌, inl, inr, Bool, true, false, List, [], ◌∷◌, ◌++◌, length, map, drop, Option, Some, None, IfSome, Ok, if◌then◌else◌, refl, sym, ap, ◌∙◌, subst, arith, length-append}
+use Rattle.std.proofs.Common.{◌≡◌, ℕ, suc, ◌+◌, ◌*◌, ◌<◌, ◌≤◌, nat_le, ◌||◌, ◌⊎◌, inl, inr, Bool, true, false, List, [], ◌∷◌, ◌++◌, length, map, drop, Option, Some, None, IfSome, Ok, if◌then◌else◌, refl, sym, ap, ◌∙◌, subst, arith, length-append}
 use Rattle.std.proofs.lemmas.Bool.Decides.{nat_tests}
 use Rattle.prime_field.specs.Modular.{inverse}
 use Rattle.monomials.specs.Polynomials.{Polynomial, Each, IsPolynomial, poly_scale}
@@ -10,39 +10,34 @@ use Rattle.monomials.specs.Leading.{leading_coefficient}
 use Rattle.word_model.specs.Words.{Algebra}
 use Rattle.word_model.specs.Conditions.{IsGAlgebra}
 use Rattle.word_model.specs.Reduction.{Reduced as Reduction, reduce}
-use Rattle.word_model.specs.Jobs.{same_job, is_queued, without, job_sugar, element_sugar, least_job, start_of, chain_witness, AreSugars, UsesElements}
-use Rattle.word_model.specs.Machine.{State, Turn, On, Over, step, turn_of_job, turn_of_start, turn_of_rest, with_entry, with_element, jobs_of, most_elements, seeds_from, first_state, IsElement, IsState}
+use Rattle.word_model.specs.Jobs.{same_job, is_queued, without, job_sugar, element_sugar, least_job, chain_witness, AreSugars, UsesElements}
+use Rattle.word_model.specs.Machine.{State, On, Over, turn_of_job, with_element, jobs_of, most_elements, seeds_from, first_state, IsElement, IsState}
 use Rattle.word_model.specs.declared.records.Job.{Job}
 use Rattle.word_model.specs.declared.records.Job.TheVariants.{Seed, Pair, Right}
 use Rattle.word_model.specs.declared.records.Mode.{Mode}
 use Rattle.word_model.specs.declared.records.Entry.{Entry}
-use Rattle.word_model.specs.declared.records.Entry.TheVariants.{Skipped, Zero, New}
+use Rattle.word_model.specs.declared.records.Entry.TheVariants.{New}
 use Rattle.word_model.specs.declared.records.Outcome.{Outcome}
-use Rattle.word_model.specs.declared.records.Outcome.TheVariants.{Finished, BudgetSpent, BasisFull, DegreeOver}
+use Rattle.word_model.specs.declared.records.Outcome.TheVariants.{Finished, BudgetSpent, BasisFull}
 use Rattle.word_model.proofs.JobLists.{same_job-is, same_job-itself}
 use Rattle.word_model.specs.declared.records.TraceStep.{TraceStep}
 use Rattle.word_model.proofs.Steps.{first_state-is, step-keeps}
 use Rattle.word_model.proofs.Sugars.{reduce-uses}
 use Rattle.pair_strategy.specs.Queues.{JobQueue, jobs_in, IsRising, IsQueue, IsSet, HasKey, SameJobs}
 use Rattle.pair_strategy.specs.declared.keys.Keyed.{Keyed}
-use Rattle.left_reduce.specs.Reductions.{GoneOn, behind_steps, ended_of, ends_at}
-use Rattle.left_reduce.specs.declared.reducing.Ended.{Ended}
-use Rattle.left_reduce.specs.declared.reducing.Ended.TheVariants.{Zero as Nothing, Irreducible, DegreeOver as Undefined}
-use Rattle.commit_core.specs.Leads.{Run, IsLead, IsAt, IsCommit, AreLow, run_step, keyed}
+use Rattle.pair_strategy.proofs.Least.{Each-queued}
+use Rattle.left_reduce.specs.Reductions.{GoneOn, behind_steps}
+use Rattle.commit_core.specs.Leads.{Run, IsLead, IsAt, IsCommit, AreLow, keyed}
 use Rattle.commit_core.specs.Named.{IsNamed}
-use Rattle.commit_core.specs.Kept.{Turns, IsKeptRun, is_over, reduction_of}
+use Rattle.commit_core.specs.Kept.{Turns, IsKeptRun}
 use Rattle.commit_core.specs.declared.lead.Committed.TheVariants.{Added}
-use Rattle.commit_core.proofs.Bringing.{queued-append, Each-rest}
+use Rattle.commit_core.proofs.Bringing.{queued-append}
 use Rattle.commit_core.proofs.Turning.{step-finished, step-spent, step-job, with_element-is}
 
 -- ---- sets of jobs
 
 queued-first : (job : Job) (jobs : List Job) → is_queued (job ∷ jobs) job ≡ true
 queued-first job jobs = rw (same_job-itself job) refl
-
-or_second : (a b : Bool) → b ≡ true → (a || b) ≡ true
-or_second true b e = refl
-or_second false b e = e
 
 -- what holds of each job of a list holds of each that is queued there
 Each-at : (P : Job → Type 0) (jobs : List Job) (job : Job) → Each P jobs → is_queued jobs job ≡ true → P job
@@ -52,10 +47,6 @@ Each-at P (first ∷ jobs) job h e = by (same_job job first) refl e (Each-at P j
     by : (t : Bool) → same_job job first ≡ t → (t || is_queued jobs job) ≡ true → (is_queued jobs job ≡ true → P job) → P job
     by true is e behind = subst P (sym (same_job-is job first is)) h.0
     by false is e behind = behind e
-
-Each-queued : (P : Job → Type 0) (jobs : List Job) → ((job : Job) → is_queued jobs job ≡ true → P job) → Each P jobs
-Each-queued P [] h = tt
-Each-queued P (job ∷ jobs) h = (h job (queued-first job jobs), Each-queued P jobs (λ other e. h other (or_second (same_job other job) (is_queued jobs other) e)))
 
 -- and of each of a list with the same jobs
 pub Each-same : (P : Job → Type 0) (jobs others : List Job) → SameJobs jobs others → Each P jobs → Each P others

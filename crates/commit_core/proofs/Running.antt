@@ -1,8 +1,8 @@
 -- A lead that is gone on with, and the run of the machine.
-use Rattle.std.proofs.Common.{◌≡◌, ℕ, suc, ◌-◌, ◌<◌, length, List, Option, Some, Ok, sym, ap, ◌∙◌, refl, subst, arith}
+use Rattle.std.proofs.Common.{◌≡◌, ℕ, suc, ◌-◌, ◌<◌, length, List, Ok, sym, ap, ◌∙◌, refl}
 use Rattle.monomials.specs.Polynomials.{Polynomial}
 use Rattle.word_model.specs.Words.{Algebra}
-use Rattle.word_model.specs.Machine.{State, On, Over, Journal, first_state, step, run_within, machine, ends_with}
+use Rattle.word_model.specs.Machine.{State, Over, Journal, first_state, step, run_within, machine, ends_with}
 use Rattle.word_model.specs.declared.records.Mode.{Mode}
 use Rattle.word_model.specs.declared.records.Outcome.{Outcome}
 use Rattle.commit_core.specs.Leads.{Run, IsAt, IsSameRun, IsCommit, run_step}

@@ -17,7 +17,7 @@ ghost use Rattle.commit_core.specs.declared.lead.Committed.TheVariants.{Added, O
 
 use crate::progress::Progress;
 use algebra::{Algebra, ProductFault};
-use gpoly::GPoly;
+use gpoly::{GPoly, copies};
 use gproduct::{Steps, TableSeat};
 use left_reduce::{self, Reduced, reduce_from, start_of};
 use pair_strategy::{self, chain_witness, element_sugar, job_key};
@@ -399,15 +399,4 @@ impl Lead {
             .admit(alloc, alg, gens, self.mode, entry, element, sugar)?;
         Ok(Committed::Added)
     }
-}
-
-// A copy of polynomials.
-fn copies(alloc: Global, polys: &[GPoly]) -> Result<Vec<GPoly>, AllocError>
-    ensures { IfOk result (λ all. all.items ≡ polys.now) }
-{
-    let mut all = Vec::with_capacity(alloc, polys.len())?;
-    for poly in polys {
-        all.push(poly.copy(alloc)?)?;
-    }
-    Ok(all)
 }

@@ -1,5 +1,4 @@
-use Rattle.std.proofs.Common.{◌≡◌, ◌-◌, length, Some, Ok, refl, sym, ap, ◌∙◌, subst, arith}
-use Rattle.word_model.specs.Machine.{State}
+use Rattle.std.proofs.Common.{Ok, sym, ap, ◌∙◌, subst, arith}
 use Rattle.commit_core.specs.Leads.{Run, IsCommit}
 use Rattle.commit_core.specs.declared.lead.Committed.{Committed}
 use Rattle.commit_core.specs.declared.lead.Committed.TheVariants.{Added, Over as Ended}

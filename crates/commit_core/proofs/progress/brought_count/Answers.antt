@@ -1,5 +1,4 @@
-use Rattle.std.proofs.Common.{◌≡◌, ◌+◌, ◌-◌, length, sym, ap, ◌∙◌, arith}
-use Rattle.word_model.specs.Machine.{jobs_of}
+use Rattle.std.proofs.Common.{◌+◌, arith}
 use Rattle.commit_core.proofs.Bringing.{length-brought}
 use Rattle.commit_core.proofs.progress.brought_count.Goals as goal
 

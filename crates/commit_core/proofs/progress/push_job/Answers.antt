@@ -1,9 +1,10 @@
-use Rattle.std.proofs.Common.{◌≡◌, length, sym, ap, ◌∙◌, subst}
+use Rattle.std.proofs.Common.{sym, ap, ◌∙◌, subst}
 use Rattle.monomials.specs.Orders.{RowOrder}
 use Rattle.monomials.specs.Polynomials.{Each}
 use Rattle.word_model.specs.Jobs.{job_sugar, key_monomial}
 use Rattle.pair_strategy.specs.Queues.{HasKey}
-use Rattle.commit_core.proofs.Bringing.{sorted-vars, elements-vars, Each-with_item}
+use Rattle.pair_strategy.proofs.Placing.{Each-with_item}
+use Rattle.commit_core.proofs.Bringing.{sorted-vars, elements-vars}
 use Rattle.commit_core.proofs.progress.push_job.Goals as goal
 
 pub job_key-requires-clause-in_range : goal.job_key-requires-clause-in_range

@@ -1,9 +1,9 @@
-use Rattle.std.proofs.Common.{◌≡◌, ◌+◌, ◌-◌, ◌≤◌, ◌++◌, length, sym, ap, ◌∙◌, subst, arith}
-use Rattle.word_model.specs.Machine.{pairs_with, rights_of, jobs_of}
-use Rattle.word_model.specs.declared.records.Mode.TheVariants.{Left, TwoSided}
+use Rattle.std.proofs.Common.{◌-◌, ◌≤◌, length, sym, ◌∙◌, subst, arith}
+use Rattle.word_model.specs.Machine.{pairs_with, jobs_of}
+use Rattle.word_model.specs.declared.records.Mode.TheVariants.{TwoSided}
 use Rattle.word_model.specs.declared.records.Mode.{Mode}
 use Rattle.word_model.specs.declared.records.Job.TheVariants.{Right}
-use Rattle.pair_strategy.specs.Queues.{jobs_in, SameJobs}
+use Rattle.pair_strategy.specs.Queues.{jobs_in}
 use Rattle.commit_core.proofs.Bringing.{length-brought, absent-append, pair-absent, right-absent, right-no_pair, brought-pairs}
 use Rattle.commit_core.proofs.progress.push_jobs.Goals as goal
 

@@ -1,4 +1,4 @@
-use Rattle.std.proofs.Common.{◌≡◌, ◌-◌, false, sym, ◌∙◌, arith}
+use Rattle.std.proofs.Common.{◌-◌, sym, ◌∙◌, arith}
 use Rattle.word_model.specs.Machine.{pairs_with}
 use Rattle.word_model.specs.declared.records.Job.TheVariants.{Pair}
 use Rattle.pair_strategy.specs.Queues.{jobs_in}

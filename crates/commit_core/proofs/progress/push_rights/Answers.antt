@@ -1,4 +1,4 @@
-use Rattle.std.proofs.Common.{◌≡◌, ◌+◌, ◌-◌, false, ◌++◌, sym, ◌∙◌, subst, arith}
+use Rattle.std.proofs.Common.{◌≡◌, ◌+◌, ◌-◌, ◌++◌, sym, ◌∙◌, subst, arith}
 use Rattle.word_model.specs.Machine.{rights_of}
 use Rattle.word_model.specs.declared.records.Job.TheVariants.{Right}
 use Rattle.pair_strategy.specs.Queues.{jobs_in, SameJobs}

@@ -1,8 +1,7 @@
-use Rattle.std.proofs.Common.{◌≡◌, ◌+◌, false, length, take, sym, ap, ◌∙◌, subst, arith}
+use Rattle.std.proofs.Common.{◌+◌, take, sym, ◌∙◌, arith}
 use Rattle.std.proofs.lemmas.List.{length-take-le}
-use Rattle.word_model.specs.Machine.{seeds_from}
 use Rattle.word_model.specs.declared.records.Job.TheVariants.{Seed}
-use Rattle.pair_strategy.specs.Queues.{jobs_in, SameJobs}
+use Rattle.pair_strategy.specs.Queues.{jobs_in}
 use Rattle.commit_core.proofs.Seeding.{seed-absent, seeds-step}
 use Rattle.commit_core.proofs.progress.push_seeds.Goals as goal
 

@@ -3,7 +3,6 @@ use Rattle.monomials.specs.Polynomials.{Polynomial, Each}
 use Rattle.word_model.specs.Words.{Algebra}
 use Rattle.word_model.specs.Conditions.{IsGAlgebra}
 use Rattle.word_model.specs.Machine.{State, On, jobs_of}
-use Rattle.word_model.specs.declared.records.Job.{Job}
 use Rattle.pair_strategy.specs.Queues.{jobs_in, HasKey, SameJobs}
 use Rattle.commit_core.specs.Named.{IsNamed}
 use Rattle.commit_core.specs.Leads.{Run, IsCommit, AreLow}

@@ -1,4 +1,4 @@
-use Rattle.std.proofs.Common.{◌≡◌, ◌<◌, ◌≤◌, length, Some, None, sym, ap, ◌∙◌, subst, arith}
+use Rattle.std.proofs.Common.{◌≡◌, length, Some, None, sym, ap, ◌∙◌, arith}
 use Rattle.commit_core.specs.Leads.{Run}
 use Rattle.commit_core.proofs.Leading.{turn-finished, turn-spent, turn-job, turn-by}
 use Rattle.commit_core.proofs.lead.Lead.commit.Goals as goal

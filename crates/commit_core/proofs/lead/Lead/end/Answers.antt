@@ -1,6 +1,5 @@
-use Rattle.std.proofs.Common.{◌≡◌, sym, subst}
-use Rattle.word_model.specs.Machine.{State, Over}
-use Rattle.pair_strategy.specs.Queues.{jobs_in}
+use Rattle.std.proofs.Common.{sym, subst}
+use Rattle.word_model.specs.Machine.{Over}
 use Rattle.commit_core.specs.Leads.{Run}
 use Rattle.commit_core.specs.Kept.{Turns, state_of, kept_run}
 use Rattle.commit_core.proofs.Leading.{lead-ends}

@@ -1,6 +1,6 @@
-use Rattle.std.proofs.Common.{◌≡◌, ◌≢◌, ◌<◌, [], length, sym, ap, ◌∙◌, subst, arith}
+use Rattle.std.proofs.Common.{◌≡◌, ◌<◌, length, sym, ap, ◌∙◌, subst, arith}
 use Rattle.prime_field.specs.Modular.{IsPrime, inverse}
-use Rattle.monomials.specs.Polynomials.{Polynomial, IsPolynomial, HasNumbers, poly_scale}
+use Rattle.monomials.specs.Polynomials.{Polynomial, IsPolynomial, poly_scale}
 use Rattle.monomials.specs.Leading.{leading_coefficient}
 use Rattle.monomials.proofs.Operations.{HasNumbers-polynomial}
 use Rattle.word_model.specs.Words.{Algebra}

@@ -1,6 +1,5 @@
-use Rattle.std.proofs.Common.{◌≡◌, List, ◌∷◌, drop, sym, ap, ◌∙◌, subst}
+use Rattle.std.proofs.Common.{◌≡◌, drop, sym, ap, ◌∙◌, subst}
 use Rattle.word_model.specs.Jobs.{least_job}
-use Rattle.word_model.specs.Machine.{State}
 use Rattle.pair_strategy.specs.Queues.{jobs_in}
 use Rattle.commit_core.specs.Leads.{Run, IsAt}
 use Rattle.commit_core.specs.Kept.{kept_run}

@@ -1,4 +1,4 @@
-use Rattle.std.proofs.Common.{◌≡◌, ap, ◌∙◌}
+use Rattle.std.proofs.Common.{ap}
 use Rattle.commit_core.specs.Leads.{Run}
 use Rattle.commit_core.proofs.Leading.{uses-elements}
 use Rattle.commit_core.proofs.lead.Lead.reduce_job.Goals as goal

@@ -1,7 +1,6 @@
-use Rattle.std.proofs.Common.{◌≡◌, ℕ, ◌+◌, ◌-◌, List, ◌++◌, ◌∷◌, [], length, drop, if◌then◌else◌, sym, ap, ◌∙◌, subst, arith, length-append}
+use Rattle.std.proofs.Common.{◌≡◌, ℕ, ◌-◌, List, ◌++◌, ◌∷◌, [], length, drop, if◌then◌else◌, sym, ap, ◌∙◌, subst, arith, length-append}
 use Rattle.std.specs.Result.{is_ok}
 use Rattle.monomials.specs.Polynomials.{Polynomial, Each}
-use Rattle.word_model.specs.Jobs.{IsJob}
 use Rattle.pair_strategy.specs.Queues.{jobs_in, HasKey, IsSet}
 use Rattle.pair_strategy.specs.declared.keys.Keyed.{Keyed}
 use Rattle.word_model.proofs.Sugars.{AreSugars-length}

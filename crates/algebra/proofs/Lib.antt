@@ -12,3 +12,4 @@ pub mod SortedAnew
 pub mod OrderFaults
 pub mod SortedRelations
 mod ProductLaws
+pub mod MetFaults

@@ -1,17 +1,16 @@
 -- A finished list comes from its basis: its origins and its steps name elements of that.
 use Rattle.std.proofs.Common.{◌≡◌, ℕ, suc, ◌+◌, ◌≤◌, Bool, true, false, if◌then◌else◌, List, [], ◌∷◌, length, Option, Some, None, refl, ap, subst, arith}
-use Rattle.std.proofs.Common.{is_lt}
-use Rattle.monomials.specs.Orders.{order_cmp}
-use Rattle.monomials.specs.Leading.{leading_monomial}
 use Rattle.monomials.specs.Polynomials.{Polynomial, Each, IsPolynomial}
 use Rattle.word_model.specs.Words.{Algebra}
 use Rattle.word_model.specs.Conditions.{IsGAlgebra}
 use Rattle.word_model.specs.Reduction.{Reduced, reduce_tail}
-use Rattle.word_model.specs.Finished.{Final, is_kept, kept_from, kept, insert_final, with_final, finals_from, FinishedList, list_of, option_list, finished}
+use Rattle.word_model.specs.Finished.{Final, kept_from, kept, insert_final, with_final, finals_from, FinishedList, list_of, option_list, finished}
 use Rattle.word_model.specs.Machine.{IsElement}
 use Rattle.word_model.specs.Inside.Sound.{IsStep}
 use Rattle.cofactors.specs.Rows.{AreTails}
 use Rattle.word_model.proofs.Traces.{reduce_tail-steps}
+use Rattle.word_model.proofs.Kept.{kept-sorted, length-kept}
+use Rattle.word_model.proofs.FinalLists.{Each-insert_final}
 
 module _ (A : Algebra) (ok : IsGAlgebra A) where
   -- an element of the list, over m elements of the basis
@@ -19,15 +18,6 @@ module _ (A : Algebra) (ok : IsGAlgebra A) where
     first : 1 ≤ x.origin
     last : x.origin ≤ m
     tail : Each (IsStep A m) x.tail
-
-  Each-insert_final : (P : Final → Type 0) (x : Final) (finals : List Final) → P x → Each P finals → Each P (insert_final A x finals)
-  Each-insert_final P x [] h hs = (h, tt)
-  Each-insert_final P x (y ∷ ys) h hs =
-      by (is_lt (order_cmp A.order.rows (leading_monomial x.polynomial) (leading_monomial y.polynomial))) (Each-insert_final P x ys h hs.1)
-    where
-      by : (b : Bool) → Each P (insert_final A x ys) → Each P (if b then x ∷ y ∷ ys else y ∷ insert_final A x ys)
-      by true ih = (h, hs)
-      by false ih = (hs.0, ih)
 
   module _ (K : List Polynomial) (sorted : Each (IsPolynomial A.p A.order) K) where
     with_final-are : (i : ℕ) (r : Reduced) (o : Option (List Final)) (finals : List Final) → 1 ≤ i → i ≤ length K → Each (IsStep A (length K)) r.trace
@@ -44,7 +34,7 @@ module _ (A : Algebra) (ok : IsGAlgebra A) where
         by false e =
             let is : insert_final A (record { polynomial = r.rest; origin = i; tail = r.trace }) others ≡ finals = cc in
             subst (Each (IsFinal (length K))) is
-            (Each-insert_final (IsFinal (length K)) (record { polynomial = r.rest; origin = i; tail = r.trace }) others
+            (Each-insert_final A (IsFinal (length K)) (record { polynomial = r.rest; origin = i; tail = r.trace }) others
             (record { first = low; last = high; tail = steps }) (before others refl))
 
     finals_from-are : (i : ℕ) (H : List Polynomial) (finals : List Final) → 1 ≤ i → i + length H ≤ suc (length K) → Each (IsPolynomial A.p A.order) H
@@ -54,18 +44,6 @@ module _ (A : Algebra) (ok : IsGAlgebra A) where
     finals_from-are i ((t ∷ f) ∷ H) finals low high h e =
         with_final-are i (reduce_tail A K (t ∷ f)) (finals_from A K (suc i) H) finals low (omega arith) (reduce_tail-steps A ok K sorted (t ∷ f) h.0)
         (λ before is. finals_from-are (suc i) H before (omega arith) (omega arith) h.1 is) e
-
-  kept_from-sorted : (G : List Polynomial) (i : ℕ) (H : List Polynomial) → Each (IsElement A) H → Each (IsPolynomial A.p A.order) (kept_from G i H)
-  kept_from-sorted G i [] h = tt
-  kept_from-sorted G i (g ∷ H) h = (by (is_kept G i), kept_from-sorted G (suc i) H h.1)
-    where
-      by : (b : Bool) → IsPolynomial A.p A.order (if b then g else [])
-      by true = h.0.0
-      by false = record { canonical = tt; vars = tt }
-
-  length-kept_from : (G : List Polynomial) (i : ℕ) (H : List Polynomial) → length (kept_from G i H) ≡ length H
-  length-kept_from G i [] = refl
-  length-kept_from G i (g ∷ H) = ap suc (length-kept_from G (suc i) H)
 
   parts : (m : ℕ) (finals : List Final) → Each (IsFinal m) finals → AreTails A m (list_of finals)
   parts m [] h = record { origins = tt; tails = tt; one_each = refl }
@@ -82,7 +60,7 @@ module _ (A : Algebra) (ok : IsGAlgebra A) where
       by None is e = cc
       by (Some finals) is e =
           let made : list_of finals ≡ F = cc in
-          let sorted : Each (IsPolynomial A.p A.order) (kept_from G 1 G) = kept_from-sorted G 1 G elements in
+          let sorted : Each (IsPolynomial A.p A.order) (kept_from G 1 G) = kept-sorted A G elements in
           let all : Each (IsFinal (length (kept_from G 1 G))) finals =
           finals_from-are (kept_from G 1 G) sorted 1 (kept_from G 1 G) finals (omega arith) (omega arith) sorted is in
-          subst (λ m. AreTails A m F) (length-kept_from G 1 G) (subst (AreTails A (length (kept_from G 1 G))) made (parts (length (kept_from G 1 G)) finals all))
+          subst (λ m. AreTails A m F) (length-kept G) (subst (AreTails A (length (kept_from G 1 G))) made (parts (length (kept_from G 1 G)) finals all))

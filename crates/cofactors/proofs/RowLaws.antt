@@ -1,5 +1,8 @@
 -- Rows and their sums from one place on, as the program's loops walk through them.
 use Rattle.std.proofs.Common.{◌≡◌, ◌≢◌, ℕ, zero, suc, ◌-◌, ◌<◌, ◌≤◌, Bool, true, false, ◌&&◌, if◌then◌else◌, List, [], ◌∷◌, ◌++◌, map, length, take, drop, slice_index_or, slice_set, replicate, Option, Some, None, refl, sym, ap, ◌∙◌, subst, arith, append_assoc, append-nil, length-append}
+use lib.ListN.{get_or-append}
+use Rattle.std.proofs.Math.Seq.{drop-cons}
+use Rattle.std.proofs.lemmas.Bool.{and_left}
 use Rattle.monomials.specs.Monomials.{Monomial, one}
 use Rattle.monomials.specs.Orders.{order_cmp}
 use Rattle.monomials.specs.Polynomials.{Polynomial, Each, IsCanonical, IsPolynomial, poly_add, poly_sub, poly_scale}
@@ -21,15 +24,11 @@ use Rattle.word_model.specs.declared.records.Entry.TheVariants.{Skipped, Zero, N
 use Rattle.word_model.proofs.TermProducts.{product-zero}
 use Rattle.word_model.specs.Inside.Sound.{IsStep, IsNamed, IsSound, behind, behind_all, AreSound}
 use Rattle.cofactors.specs.Rows.{IsRow}
-use Rattle.cofactors.proofs.Lists.{drop_step, item-append}
 
 -- ---- tests
 
 and_true : (a b : Bool) → a ≡ true → (a && b) ≡ b
 and_true a b e = ap (λ a. a && b) e
-
-and_false : (a b : Bool) → a ≡ false → (a && b) ≡ false
-and_false a b e = ap (λ a. a && b) e
 
 -- ---- one entry
 
@@ -73,7 +72,7 @@ module _ (A : Algebra) (c : ℕ) (m : Monomial) where
       append_assoc done (r ∷ []) (row_multiple A c m (drop j entries))
       ∙ ap (λ j. done ++ r ∷ row_multiple A c m (drop j entries)) next
       ∙ ap (λ r. done ++ r ∷ row_multiple A c m (drop (suc k) entries)) is
-      ∙ ap (λ e. done ++ row_multiple A c m e) (sym (drop_step entries k [] below))
+      ∙ ap (λ e. done ++ row_multiple A c m e) (sym (drop-cons entries k [] below))
 
   -- one more difference, in place
   pub row_sub-step : (row other : Row) (k j : ℕ) (v : Polynomial) → k < length row → length row ≡ length other → j ≡ suc k
@@ -110,20 +109,20 @@ module _ (m : Monomial) (entries : Row) (k : ℕ) (below : k < length entries) w
   pub multiple_reaches-step : (j : ℕ) → j ≡ suc k → in_reach ((1, m) ∷ []) (slice_index_or entries k []) ≡ true
       → multiple_reaches m (drop k entries) ≡ multiple_reaches m (drop j entries)
   multiple_reaches-step j next here =
-      ap (multiple_reaches m) (drop_step entries k [] below) ∙ and_true _ _ here ∙ ap (λ j. multiple_reaches m (drop j entries)) (sym next)
+      ap (multiple_reaches m) (drop-cons entries k [] below) ∙ and_true _ _ here ∙ ap (λ j. multiple_reaches m (drop j entries)) (sym next)
 
   pub multiple_reaches-over : in_reach ((1, m) ∷ []) (slice_index_or entries k []) ≡ false → multiple_reaches m (drop k entries) ≡ false
-  multiple_reaches-over here = ap (multiple_reaches m) (drop_step entries k [] below) ∙ and_false _ _ here
+  multiple_reaches-over here = ap (multiple_reaches m) (drop-cons entries k [] below) ∙ and_left _ _ here
 
 module _ (R : List Row) (trace : List TraceStep) (k : ℕ) (below : k < length trace) (s : TraceStep) (s_is : slice_index_or trace k s ≡ s) where
   from_here : drop k trace ≡ s ∷ drop (suc k) trace
-  from_here = drop_step trace k s below ∙ ap (λ s. s ∷ drop (suc k) trace) s_is
+  from_here = drop-cons trace k s below ∙ ap (λ s. s ∷ drop (suc k) trace) s_is
 
   pub steps_reach-step : (j : ℕ) → j ≡ suc k → multiple_reaches s.mono (row_at R s.index) ≡ true → steps_reach R (drop k trace) ≡ steps_reach R (drop j trace)
   steps_reach-step j next here = ap (steps_reach R) from_here ∙ and_true _ _ here ∙ ap (λ j. steps_reach R (drop j trace)) (sym next)
 
   pub steps_reach-over : multiple_reaches s.mono (row_at R s.index) ≡ false → steps_reach R (drop k trace) ≡ false
-  steps_reach-over here = ap (steps_reach R) from_here ∙ and_false _ _ here
+  steps_reach-over here = ap (steps_reach R) from_here ∙ and_left _ _ here
 
   pub less_steps-step : (A : Algebra) (row row' : Row) (j : ℕ) → j ≡ suc k → row' ≡ row_sub A row (row_multiple A s.coef s.mono (row_at R s.index))
       → less_steps A R row' (drop j trace) ≡ less_steps A R row (drop k trace)
@@ -136,11 +135,11 @@ module _ (entries gens : Row) (k : ℕ) (below : k < length entries) (below_gens
   pub value_reaches-step : (j : ℕ) → j ≡ suc k → in_reach (slice_index_or entries k []) (slice_index_or gens k []) ≡ true
       → value_reaches (drop k entries) (drop k gens) ≡ value_reaches (drop j entries) (drop j gens)
   value_reaches-step j next here =
-      (λ i. value_reaches (drop_step entries k [] below i) (drop_step gens k [] below_gens i)) ∙ and_true _ _ here
+      (λ i. value_reaches (drop-cons entries k [] below i) (drop-cons gens k [] below_gens i)) ∙ and_true _ _ here
       ∙ ap (λ j. value_reaches (drop j entries) (drop j gens)) (sym next)
 
   pub value_reaches-over : in_reach (slice_index_or entries k []) (slice_index_or gens k []) ≡ false → value_reaches (drop k entries) (drop k gens) ≡ false
-  value_reaches-over here = (λ i. value_reaches (drop_step entries k [] below i) (drop_step gens k [] below_gens i)) ∙ and_false _ _ here
+  value_reaches-over here = (λ i. value_reaches (drop-cons entries k [] below i) (drop-cons gens k [] below_gens i)) ∙ and_left _ _ here
 
   pub row_value-step : (A : Algebra) (v v' : Polynomial) (j : ℕ) → j ≡ suc k → v ≡ row_value A (drop j entries) (drop j gens)
       → v' ≡ poly_add (order_cmp A.order.rows) A.p (product A (slice_index_or entries k []) (slice_index_or gens k [])) v
@@ -148,14 +147,14 @@ module _ (entries gens : Row) (k : ℕ) (below : k < length entries) (below_gens
   row_value-step A v v' j next v_is v'_is =
       v'_is
       ∙ ap (poly_add (order_cmp A.order.rows) A.p (product A (slice_index_or entries k []) (slice_index_or gens k []))) (v_is ∙ ap (λ j. row_value A (drop j entries) (drop j gens)) next)
-      ∙ (λ i. row_value A (sym (drop_step entries k [] below) i) (sym (drop_step gens k [] below_gens) i))
+      ∙ (λ i. row_value A (sym (drop-cons entries k [] below) i) (sym (drop-cons gens k [] below_gens) i))
 
 -- where the product at a place is over the limit, so is the row
 pub value_reaches-at : (entries gens : Row) (k : ℕ) → k < length entries → k < length gens
     → in_reach (slice_index_or entries k []) (slice_index_or gens k []) ≡ false → value_reaches entries gens ≡ false
 value_reaches-at [] gens k below below_gens e = absurd (omega arith)
 value_reaches-at (q ∷ row) [] k below below_gens e = absurd (omega arith)
-value_reaches-at (q ∷ row) (f ∷ gens) zero below below_gens e = and_false _ _ e
+value_reaches-at (q ∷ row) (f ∷ gens) zero below below_gens e = and_left _ _ e
 value_reaches-at (q ∷ row) (f ∷ gens) (suc k) below below_gens e =
     ap (λ b. in_reach q f && b) (value_reaches-at row gens k (omega arith) (omega arith) e) ∙ none (in_reach q f)
   where
@@ -166,24 +165,24 @@ value_reaches-at (q ∷ row) (f ∷ gens) (suc k) below below_gens e =
 module _ (rows : List Row) (gens : List Polynomial) (k : ℕ) (below : k < length rows) (row : Row) (row_is : slice_index_or rows k row ≡ row) where
   pub values_reach-step : (j : ℕ) → j ≡ suc k → value_reaches row gens ≡ true → values_reach (drop k rows) gens ≡ values_reach (drop j rows) gens
   values_reach-step j next here =
-      ap (λ rows. values_reach rows gens) (drop_step rows k row below ∙ ap (λ row. row ∷ drop (suc k) rows) row_is) ∙ and_true _ _ here
+      ap (λ rows. values_reach rows gens) (drop-cons rows k row below ∙ ap (λ row. row ∷ drop (suc k) rows) row_is) ∙ and_true _ _ here
       ∙ ap (λ j. values_reach (drop j rows) gens) (sym next)
 
   pub values_reach-over : value_reaches row gens ≡ false → values_reach (drop k rows) gens ≡ false
   values_reach-over here =
-      ap (λ rows. values_reach rows gens) (drop_step rows k row below ∙ ap (λ row. row ∷ drop (suc k) rows) row_is) ∙ and_false _ _ here
+      ap (λ rows. values_reach rows gens) (drop-cons rows k row below ∙ ap (λ row. row ∷ drop (suc k) rows) row_is) ∙ and_left _ _ here
 
 -- ---- finished rows
 
 module _ (A : Algebra) (R : List Row) (origin : List ℕ) (tails : List (List TraceStep)) (k : ℕ) (below : k < length origin) (same : length origin ≡ length tails)
     (o : ℕ) (o_is : slice_index_or origin k o ≡ o) (tail : List TraceStep) (tail_is : slice_index_or tails k tail ≡ tail) where
   tails_from : drop k tails ≡ tail ∷ drop (suc k) tails
-  tails_from = drop_step tails k tail (omega arith) ∙ ap (λ tail. tail ∷ drop (suc k) tails) tail_is
+  tails_from = drop-cons tails k tail (omega arith) ∙ ap (λ tail. tail ∷ drop (suc k) tails) tail_is
 
   pub finished_rows-step : (done : List Row) (row : Row) (j : ℕ) → j ≡ suc k → row ≡ less_steps A R (row_at R o) tail
       → (done ++ row ∷ []) ++ finished_rows A R (drop j origin) (drop j tails) ≡ done ++ finished_rows A R (drop k origin) (drop k tails)
   finished_rows-step done row j next is =
-      let origin_from : drop k origin ≡ o ∷ drop (suc k) origin = drop_step origin k o below ∙ ap (λ o. o ∷ drop (suc k) origin) o_is in
+      let origin_from : drop k origin ≡ o ∷ drop (suc k) origin = drop-cons origin k o below ∙ ap (λ o. o ∷ drop (suc k) origin) o_is in
       append_assoc done (row ∷ []) (finished_rows A R (drop j origin) (drop j tails))
       ∙ ap (λ j. done ++ row ∷ finished_rows A R (drop j origin) (drop j tails)) next
       ∙ ap (λ row. done ++ row ∷ finished_rows A R (drop (suc k) origin) (drop (suc k) tails)) is
@@ -193,7 +192,7 @@ module _ (A : Algebra) (R : List Row) (origin : List ℕ) (tails : List (List Tr
   tails_reach-step j next here = ap (tails_reach R) tails_from ∙ and_true _ _ here ∙ ap (λ j. tails_reach R (drop j tails)) (sym next)
 
   pub tails_reach-over : steps_reach R tail ≡ false → tails_reach R (drop k tails) ≡ false
-  tails_reach-over here = ap (tails_reach R) tails_from ∙ and_false _ _ here
+  tails_reach-over here = ap (tails_reach R) tails_from ∙ and_left _ _ here
 
 -- ---- rows of all elements
 
@@ -219,7 +218,7 @@ module _ (A : Algebra) (g : ℕ) (G : List Polynomial) where
       (row ∷ later.0, later.1 ∙ append_assoc R (row ∷ []) later.0)
 
 pub row_at-longer : (R more : List Row) (i : ℕ) → 1 ≤ i → i ≤ length R → row_at (R ++ more) i ≡ row_at R i
-row_at-longer R more i low high = item-append R more (i - 1) [] (omega arith)
+row_at-longer R more i low high = get_or-append R more [] (i - 1) (omega arith)
 
 module _ (A : Algebra) (gens G : List Polynomial) (mode : Mode) (R more : List Row) where
   steps_reach-longer : (trace : List TraceStep) → Each (IsStep A (length R)) trace → steps_reach (R ++ more) trace ≡ steps_reach R trace
@@ -255,7 +254,7 @@ entries_reach-cons G R (New job trace scale) entries = regroup (start_reaches G 
 module _ (A : Algebra) (gens G : List Polynomial) (mode : Mode) (g : ℕ) (entries : List Entry) (k : ℕ) (below : k < length entries) (e : Entry)
     (e_is : slice_index_or entries k e ≡ e) (R : List Row) where
   entries_from : drop k entries ≡ e ∷ drop (suc k) entries
-  entries_from = drop_step entries k e below ∙ ap (λ e. e ∷ drop (suc k) entries) e_is
+  entries_from = drop-cons entries k e below ∙ ap (λ e. e ∷ drop (suc k) entries) e_is
 
   pub rows_after-step : (R' : List Row) (j : ℕ) → j ≡ suc k → R' ≡ rows_after A g G R (e ∷ []) → rows_after A g G R' (drop j entries) ≡ rows_after A g G R (drop k entries)
   rows_after-step R' j next is =
@@ -276,7 +275,7 @@ module _ (A : Algebra) (gens G : List Polynomial) (mode : Mode) (g : ℕ) (entri
 
     pub entries_reach-over : entries_reach G R (e ∷ []) ≡ false → entries_reach G F (drop k entries) ≡ false
     entries_reach-over here =
-        ap (entries_reach G F) entries_from ∙ entries_reach-cons G F e (drop (suc k) entries) ∙ and_false _ _ (same_test ∙ here)
+        ap (entries_reach G F) entries_from ∙ entries_reach-cons G F e (drop (suc k) entries) ∙ and_left _ _ (same_test ∙ here)
 
   pub sound-step : (j : ℕ) → j ≡ suc k → AreSound A gens G mode (length R) (drop k entries)
       → IsSound A gens G mode (length R) e × AreSound A gens G mode (behind (length R) e) (drop j entries)

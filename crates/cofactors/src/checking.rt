@@ -8,15 +8,12 @@ ghost use Rattle.word_model.specs.Cofactors.{row_value, value_reaches, values_re
 ghost use Rattle.gproduct.specs.Seats.{Keeps};
 ghost use Rattle.cofactors.specs.Rows.{IsRow};
 
-use algebra::ProductFault;
+use algebra::{ProductFault, in_reach};
 use gpoly::GPoly;
 use gproduct::{Steps, TableSeat, times};
 use run_records::Row;
 use std::alloc::Global;
 use std::sync::ledger::Ledger;
-
-// Above this the degrees of the factors of a product must not add up to.
-const DEGREE_LIMIT: u32 = 4095;
 
 // Whether the products of the entries of each row with the generators are within the limit.
 pub(crate) fn values_reach(rows: &[Row], gens: &[GPoly]) -> bool
@@ -42,13 +39,6 @@ pub(crate) fn value_reaches(entries: &[GPoly], gens: &[GPoly]) -> bool
         }
     }
     true
-}
-
-// Whether the product of two polynomials is within the limit. Takes no memory.
-fn in_reach(f: &GPoly, g: &GPoly) -> bool
-    ensures { result ≡ in_reach f.now g.now }
-{
-    f.is_zero() || g.is_zero() || f.degree() + g.degree() <= DEGREE_LIMIT
 }
 
 // The sum of each entry times its generator.

@@ -1,6 +1,6 @@
 //! The rows of all elements of a run, from its entries.
 
-ghost use Rattle.std.specs.Prelude.{◌≡◌, ◌≢◌, ℕ, ◌<◌, ◌≤◌, ◌&&◌, true, false, [], ◌∷◌, map, length, replicate, IfOk, OnOk, Err, None};
+ghost use Rattle.std.specs.Prelude.{◌≡◌, ◌≢◌, ℕ, ◌<◌, ◌≤◌, ◌&&◌, true, false, [], ◌∷◌, map, length, IfOk, OnOk, Err, None};
 ghost use Rattle.monomials.specs.Monomials.{one};
 ghost use Rattle.monomials.specs.Polynomials.{Each, IsPolynomial, poly_scale};
 ghost use Rattle.word_model.specs.Jobs.{start_of, pair_within};
@@ -16,7 +16,7 @@ use crate::multiples::{multiple, row_at, subtract, subtract_steps};
 use crate::pairs::pair_terms;
 use crate::pushing::push;
 use algebra::{Algebra, ProductFault};
-use gpoly::{GPoly, Term};
+use gpoly::{GPoly, Term, zeros};
 use gproduct::{Steps, TableSeat};
 use monomials::Expo;
 use run_records::{Entry, Job, Row, Trace};
@@ -161,18 +161,6 @@ fn unit_row(
     let mut entries = zeros(alloc, count)?;
     entries[s as usize - 1] = one;
     Ok(entries)
-}
-
-// So many zeros.
-fn zeros(alloc: Global, count: usize) -> Result<Vec<GPoly>, AllocError>
-    requires few { count ≤ 4294967295 }
-    ensures { IfOk result (λ r. r.items ≡ replicate count []) }
-{
-    let mut zeros = Vec::with_capacity(alloc, count)?;
-    for _place in 0..count {
-        zeros.push(GPoly::zero(alloc))?;
-    }
-    Ok(zeros)
 }
 
 // The polynomial 1.

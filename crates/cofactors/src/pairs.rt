@@ -1,19 +1,18 @@
 //! The terms by which an S-polynomial multiplies its elements.
 
 ghost use Rattle.std.specs.Prelude.{◌≡◌, ◌≢◌, ◌<◌, ◌≤◌, true, [], length, IfOk, Err};
-ghost use Rattle.monomials.specs.Monomials.{degree, minus, lcm};
 ghost use Rattle.monomials.specs.Polynomials.{IsPolynomial};
-ghost use Rattle.monomials.specs.Leading.{leading_monomial, leading_coefficient};
-ghost use Rattle.word_model.specs.Reduction.{multiple, quotient, is_within};
+ghost use Rattle.monomials.specs.Leading.{leading_coefficient};
+ghost use Rattle.word_model.specs.Reduction.{multiple, is_within};
+ghost use Rattle.word_model.specs.Jobs.{first_cofactor, second_cofactor, second_number, both_within};
 ghost use Rattle.word_model.specs.Machine.{IsElement};
 ghost use Rattle.gproduct.specs.Seats.{Keeps};
-ghost use Rattle.cofactors.specs.Rows.{IsFactor, pair_first, pair_second, pair_number, reaches_both};
+ghost use Rattle.cofactors.specs.Rows.{IsFactor};
 
 use algebra::ProductFault;
 use gpoly::{GPoly, Term};
 use gproduct::{Steps, TableSeat, term_times};
 use monomials::Expo;
-use prime_field::Field;
 use std::alloc::Global;
 use std::sync::ledger::Ledger;
 
@@ -29,22 +28,22 @@ pub(crate) fn pair_terms<L: Ledger>(
 ) -> Result<(Term, Term), ProductFault>
     requires f_element { IsElement seat.old.algebra f.now }
     requires g_element { IsElement seat.old.algebra g.now }
-    requires within { reaches_both f.now g.now ≡ true }
-    ensures first { IfOk result (λ (a, _). (a.coef ≡ 1) × (a.mono ≡ pair_first f.now g.now)) }
+    requires within { both_within f.now g.now ≡ true }
+    ensures first { IfOk result (λ (a, _). (a.coef ≡ 1) × (a.mono ≡ first_cofactor f.now g.now)) }
     ensures second { IfOk result (λ (_, b).
-        (b.coef ≡ pair_number seat.old.algebra f.now g.now) × (b.mono ≡ pair_second f.now g.now)) }
+        (b.coef ≡ second_number seat.old.algebra f.now g.now) × (b.mono ≡ second_cofactor f.now g.now)) }
     ensures first_factor { IfOk result (λ (a, _). IsFactor seat.old.algebra a.coef a.mono) }
     ensures second_factor { IfOk result (λ (_, b). IsFactor seat.old.algebra b.coef b.mono) }
     ensures never_over { result ≢ Err ProductFault.DegreeOver }
     ensures algebra { seat.new.algebra ≡ seat.old.algebra }
     ensures kept { Keeps seat.old seat.new }
 {
-    let (f_lead, g_lead) = (lead(f), lead(g));
+    let (f_lead, g_lead) = (f.lead(), g.lead());
     let reached = f_lead.mono.lcm(&g_lead.mono);
     let (a, b) = (reached.minus(&f_lead.mono), reached.minus(&g_lead.mono));
     let x = leading_number(alloc, seat, &a, f, steps)?;
     let y = leading_number(alloc, seat, &b, g, steps)?;
-    let k = quotient(seat.algebra().field(), x, y);
+    let k = seat.algebra().field().div(x, y);
     Ok((Term { coef: 1, mono: a }, Term { coef: k, mono: b }))
 }
 
@@ -68,28 +67,5 @@ fn leading_number<L: Ledger>(
 {
     let _n = seat.algebra().n();
     let product = term_times(alloc, seat, 1, mono, f, steps)?;
-    Ok(lead(&product).coef)
-}
-
-// The leading term of a nonzero polynomial.
-fn lead(f: &GPoly) -> &Term
-    requires { f.now ≢ [] }
-    ensures mono { result.now.mono ≡ leading_monomial f.now }
-    ensures coef { result.now.coef ≡ leading_coefficient f.now }
-    ensures small { degree result.now.mono ≤ 4095 }
-{
-    &f.terms()[0]
-}
-
-// The number a / b, which is not zero.
-fn quotient(field: Field, a: u32, b: u32) -> u32
-    requires a_some { 0 < a }
-    requires a_small { a < field }
-    requires b_some { 0 < b }
-    requires b_small { b < field }
-    ensures value { result ≡ quotient field a b }
-    ensures some { 0 < result }
-    ensures small { result < field }
-{
-    field.mul(a, field.inv(b))
+    Ok(product.lead().coef)
 }

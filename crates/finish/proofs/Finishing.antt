@@ -1,63 +1,21 @@
 -- The finished list: what is kept, what the elements and finals are, and that they are made from the last one on.
-use Rattle.std.proofs.Common.{◌≡◌, ◌≢◌, ℕ, zero, suc, ◌+◌, ◌-◌, ◌<◌, ◌≤◌, ◌⊎◌, inl, inr, Bool, true, false, not, is_none, List, [], ◌∷◌, ◌++◌, length, drop, None, Some, Result, Ok, Err, slice_index_or, if◌then◌else◌, refl, sym, ap, ◌∙◌, subst, arith, length-append}
+use Rattle.std.proofs.Common.{◌≡◌, ◌≢◌, ℕ, zero, suc, ◌+◌, ◌-◌, ◌<◌, ◌≤◌, ◌⊎◌, inl, inr, Bool, true, false, not, is_none, List, [], ◌∷◌, ◌++◌, length, drop, None, Some, slice_index_or, if◌then◌else◌, refl, sym, ap, ◌∙◌, subst, arith, le_of_eq, length-append}
 use Rattle.std.proofs.Common.{is_lt}
 use Rattle.std.specs.List.{insert}
 use lib.ListN.{get_or-append}
+use Rattle.std.proofs.lemmas.List.{get_or_push, drop_all}
+use Rattle.std.proofs.Math.Seq.{drop-cons}
 use Rattle.std.specs.declared.cmp.Ordering.{Ordering}
 use Rattle.monomials.specs.Monomials.{Monomial}
 use Rattle.monomials.specs.Orders.{RowOrder, order_cmp}
 use Rattle.monomials.specs.Leading.{leading_monomial}
-use Rattle.monomials.specs.Polynomials.{Polynomial, Each, IsPolynomial}
+use Rattle.monomials.specs.Polynomials.{Polynomial, Each}
 use Rattle.word_model.specs.Words.{Algebra}
 use Rattle.word_model.specs.Reduction.{element, Reduced, reduce_tail}
 use Rattle.word_model.specs.Finished.{Final, displaces, is_kept, kept_from, kept, insert_final, with_final, finals_from, FinishedList, list_of, option_list, finished}
 use Rattle.word_model.specs.Machine.{IsElement}
 use Rattle.word_model.proofs.LeastNumbers.{least_number-is, least_number-absent}
 use Rattle.finish.specs.Finishing.{IsNonzeroIn, select, add_polynomial, add_final}
-
--- ---- lists
-
--- an item does not depend on what stands for one past the end
-pub item_default : {X : Type 0} (xs : List X) (k : ℕ) (d e : X) → k < length xs → slice_index_or xs k d ≡ slice_index_or xs k e
-item_default [] k d e below = absurd (omega arith)
-item_default (x ∷ xs) zero d e below = refl
-item_default (x ∷ xs) (suc k) d e below = item_default xs k d e (omega arith)
-
--- nothing stands past the end
-pub item_past : {X : Type 0} (xs : List X) (k : ℕ) (d : X) → length xs ≤ k → slice_index_or xs k d ≡ d
-item_past [] k d past = refl
-item_past (x ∷ xs) zero d past = absurd (omega arith)
-item_past (x ∷ xs) (suc k) d past = item_past xs k d (omega arith)
-
--- the item behind a list
-last_item : {X : Type 0} (xs : List X) (x d : X) (k : ℕ) → k ≡ length xs → slice_index_or (xs ++ x ∷ []) k d ≡ x
-last_item [] x d zero e = refl
-last_item [] x d (suc k) e = absurd (omega arith)
-last_item (y ∷ ys) x d zero e = absurd (omega arith)
-last_item (y ∷ ys) x d (suc k) e = last_item ys x d k (omega arith)
-
--- a list from one place on
-drop_step : (K : List Polynomial) (k : ℕ) → k < length K → drop k K ≡ slice_index_or K k [] ∷ drop (suc k) K
-drop_step [] k below = absurd (omega arith)
-drop_step (g ∷ K) zero below = refl
-drop_step (g ∷ K) (suc k) below = drop_step K k (omega arith)
-
-drop_all : (K : List Polynomial) (k : ℕ) → k ≡ length K → drop k K ≡ []
-drop_all [] zero e = refl
-drop_all [] (suc k) e = absurd (omega arith)
-drop_all (g ∷ K) zero e = absurd (omega arith)
-drop_all (g ∷ K) (suc k) e = drop_all K k (omega arith)
-
--- ---- faults
-
-fault_or : {T E : Type 0} → E → Result T E → E
-fault_or d (Ok x) = d
-fault_or d (Err e) = e
-
--- the fault that a `?` hands on is the one that it met
-pub met_fault : {T U E : Type 0} (r : Result T E) (y x d : E) → r ≡ Err y → y ≡ x → r ≡ Err d → ◌≡◌ {A = Result U E} (Err x) (Err d)
-unfolding fault_or
-met_fault r y x d r_is y_is e = ap Err (sym y_is ∙ ap (fault_or y) (sym r_is ∙ e))
 
 -- ---- what is kept
 
@@ -88,7 +46,7 @@ kept_flags-at G (suc n) k below = by (kept_flags-at G n k) (last_or_before n k b
 
     by : (k < n → slice_index_or (kept_flags G n) k false ≡ is_kept G (suc k)) → (k ≡ n) ⊎ (k < n) → slice_index_or (kept_flags G n ++ is_kept G (suc n) ∷ []) k false ≡ is_kept G (suc k)
     by ih (inl here) =
-        last_item (kept_flags G n) (is_kept G (suc n)) false k (here ∙ sym (length-kept_flags G n)) ∙ ap (λ x. is_kept G (suc x)) (sym here)
+        get_or_push (kept_flags G n) (is_kept G (suc n)) false k (length-kept_flags G n ∙ sym here) ∙ ap (λ x. is_kept G (suc x)) (sym here)
     by ih (inr before) =
         get_or-append (kept_flags G n) (is_kept G (suc n) ∷ []) false k (omega (arith, length-kept_flags G n)) ∙ ih before
 
@@ -153,14 +111,6 @@ not_selected z flags fs G k b same below flag unset =
     let off : slice_index_or flags k false ≡ false = sym (flag ∙ ap (λ fs. slice_index_or fs k false) same) ∙ unset in
     sym (select-at z flags G k below ∙ ap (λ b. if b then slice_index_or G k [] else z) off)
 
-length-kept_from : (G : List Polynomial) (i : ℕ) (H : List Polynomial) → length (kept_from G i H) ≡ length H
-length-kept_from G i [] = refl
-length-kept_from G i (g ∷ H) = ap suc (length-kept_from G (suc i) H)
-
-pub length-kept : (G : List Polynomial) → length (kept G) ≡ length G
-unfolding kept
-length-kept G = length-kept_from G 1 G
-
 -- the finished list by the finals
 pub finished-is : (A : Algebra) (G K : List Polynomial) (finals : List Final) (f : FinishedList) → K ≡ kept G → finals_from A K 1 K ≡ Some finals → f ≡ list_of finals
     → finished A G ≡ Some f
@@ -173,22 +123,6 @@ unfolding finished
 finished-none A G K K_is none = ap (λ K. option_list (finals_from A K 1 K)) (sym K_is) ∙ ap option_list none
 
 module _ (A : Algebra) where
-  abbrev IsOf : Polynomial → Type 0
-  IsOf f = IsPolynomial A.p A.order f
-
-  kept_from-sorted : (G : List Polynomial) (i : ℕ) (H : List Polynomial) → Each (IsElement A) H → Each IsOf (kept_from G i H)
-  kept_from-sorted G i [] h = tt
-  kept_from-sorted G i (g ∷ H) h = (by (is_kept G i), kept_from-sorted G (suc i) H h.1)
-    where
-      by : (b : Bool) → IsOf (if b then g else [])
-      by true = h.0.0
-      by false = record { canonical = tt; vars = tt }
-
-  -- what is kept of elements is sorted
-  pub kept-sorted : (G K : List Polynomial) → K ≡ kept G → Each (IsElement A) G → Each IsOf K
-  unfolding kept
-  kept-sorted G K is h = subst (Each IsOf) (sym is) (kept_from-sorted G 1 G h)
-
   -- elements have as many variables as the algebra, and are not zero
   pub nonzero_in : (G : List Polynomial) → Each (IsElement A) G → Each (IsNonzeroIn A.order.vars) G
   nonzero_in [] h = tt
@@ -219,14 +153,6 @@ module _ (A : Algebra) where
       ap (λ b. if b then x ∷ y ∷ ys else y ∷ insert_final A x ys) (before 0 (omega arith))
       ∙ ap (λ r. y ∷ r) (insert_final-at x ys d k (omega arith) (λ j below. before (suc j) (omega arith)) (λ below. here (omega arith)))
 
-  pub Each-insert_final : (P : Final → Type 0) (x : Final) (finals : List Final) → P x → Each P finals → Each P (insert_final A x finals)
-  Each-insert_final P x [] h hs = (h, tt)
-  Each-insert_final P x (y ∷ ys) h hs = by (is_before x.polynomial y) (Each-insert_final P x ys h hs.1)
-    where
-      by : (b : Bool) → Each P (insert_final A x ys) → Each P (if b then x ∷ y ∷ ys else y ∷ insert_final A x ys)
-      by true ih = (h, hs)
-      by false ih = (hs.0, ih)
-
   module _ (K : List Polynomial) where
     add_polynomial-none : (i : ℕ) (g : Polynomial) → add_polynomial A K i g None ≡ None
     add_polynomial-none i [] = refl
@@ -239,7 +165,7 @@ module _ (A : Algebra) where
     -- the finals from a number on are those behind it, with one more
     finals_from-at : (k : ℕ) → k < length K → finals_from A K (suc k) (drop k K) ≡ add_final A K (suc k) (finals_from A K (suc (suc k)) (drop (suc k) K))
     finals_from-at k below =
-        ap (finals_from A K (suc k)) (drop_step K k below) ∙ finals_from-cons (suc k) (slice_index_or K k []) (drop (suc k) K)
+        ap (finals_from A K (suc k)) (drop-cons K k [] below) ∙ finals_from-cons (suc k) (slice_index_or K k []) (drop (suc k) K)
         ∙ ap (λ x. add_polynomial A K (suc k) (slice_index_or K x []) (finals_from A K (suc (suc k)) (drop (suc k) K))) (one_less k)
       where
         one_less : (k : ℕ) → k ≡ suc k - 1
@@ -250,7 +176,7 @@ module _ (A : Algebra) where
     has_finals k finals = finals_from A K (suc k) (drop k K) ≡ Some finals
 
     pub has_finals-none : (k : ℕ) → k ≡ length K → has_finals k []
-    has_finals-none k e = ap (finals_from A K (suc k)) (drop_all K k e)
+    has_finals-none k e = ap (finals_from A K (suc k)) (drop_all k K (le_of_eq (sym e)))
 
     pub has_finals-all : (k : ℕ) (finals : List Final) → k ≡ 0 → has_finals k finals → finals_from A K 1 K ≡ Some finals
     has_finals-all k finals e has = subst (λ k. has_finals k finals) e has

@@ -8,7 +8,6 @@ ghost use Rattle.word_model.specs.Machine.{IsElement};
 ghost use Rattle.gproduct.specs.Seats.{Keeps};
 ghost use Rattle.finish.specs.Finishing.{add_final};
 
-use crate::selection::leading_monomial;
 use algebra::{Algebra, ProductFault};
 use gpoly::GPoly;
 use gproduct::{Steps, TableSeat};
@@ -122,10 +121,10 @@ fn place_for(algebra: &Algebra, finals: &[Final], polynomial: &GPoly) -> usize
     ensures place { (x : Finale) → x.polynomial ≡ polynomial.now →
         insert_final algebra.now x finals.now ≡ insert finals.now result x }
 {
-    let mono = leading_monomial(polynomial);
+    let mono = &polynomial.lead().mono;
     for place in 0..finals.len() {
         let other = &finals[place];
-        let other = leading_monomial(&other.polynomial);
+        let other = &other.polynomial.lead().mono;
         if algebra.order().compare(mono, other).is_lt() {
             return place;
         }

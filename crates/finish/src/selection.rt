@@ -2,12 +2,10 @@
 
 ghost use Rattle.std.specs.Prelude.{◌≡◌, ◌≢◌, ℕ, ◌≤◌, [], not, false, length, slice_index_or, IfOk};
 ghost use Rattle.monomials.specs.Polynomials.{Each};
-ghost use Rattle.monomials.specs.Leading.{leading_monomial};
 ghost use Rattle.word_model.specs.Finished.{displaces, is_kept, kept};
 ghost use Rattle.finish.specs.Finishing.{select, IsNonzeroIn};
 
 use gpoly::GPoly;
-use monomials::Expo;
 use run_records::Elements;
 use std::alloc::{AllocError, Global};
 
@@ -87,18 +85,7 @@ fn displaces(basis: &[GPoly], i: usize, j: usize) -> bool
     requires j_last { j ≤ length basis.now }
     ensures { result ≡ displaces basis.now i j }
 {
-    let mono = leading_monomial(&basis[i - 1]);
-    let other = leading_monomial(&basis[j - 1]);
+    let mono = &basis[i - 1].lead().mono;
+    let other = &basis[j - 1].lead().mono;
     i != j && other.divides(mono) && (j < i || !mono.divides(other))
-}
-
-// The greatest monomial of a nonzero polynomial.
-pub(crate) fn leading_monomial(f: &GPoly) -> &Expo
-    requires { f.now ≢ [] }
-    ensures { result.now ≡ leading_monomial f.now }
-{
-    match f.leading() {
-        Some(term) => &term.mono,
-        None => unreachable!(),
-    }
 }

@@ -11,7 +11,7 @@ use Rattle.word_model.specs.declared.records.Mode.TheVariants.{Left}
 use Rattle.word_model.proofs.FinishedRows.{finished_values}
 use Rattle.word_model.specs.Inside.Sound.{AreSound, behind_all, IsJournal}
 use Rattle.cofactors.specs.Rows.{IsRow, AreTails}
-use Rattle.cofactors.proofs.Lists.{met_fault}
+use Rattle.algebra.proofs.MetFaults.{met_fault}
 use Rattle.word_model.proofs.Journals.{journal-is, journal-elements}
 use Rattle.cofactors.proofs.Finals.{finished-tails}
 use Rattle.cofactors.proofs.RowLaws.{length-all_rows, cofactor_rows-is, cofactor_rows-entries, cofactor_rows-tails, cofactor_rows-values}

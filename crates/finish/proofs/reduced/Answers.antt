@@ -13,7 +13,9 @@ use Rattle.word_model.specs.declared.records.Mode.{Mode}
 use Rattle.word_model.specs.declared.records.Outcome.TheVariants.{Finished}
 use Rattle.word_model.proofs.RunIdeals.{finished_reduced}
 use Rattle.word_model.proofs.Letters.{Each-map}
-use Rattle.finish.proofs.Finishing.{met_fault, nonzero_in, kept-sorted, length-kept, finished-is, finished-none}
+use Rattle.word_model.proofs.Kept.{kept-sorted, length-kept}
+use Rattle.algebra.proofs.MetFaults.{met_fault}
+use Rattle.finish.proofs.Finishing.{nonzero_in, finished-is, finished-none}
 use Rattle.finish.proofs.reduced.Goals as goal
 
 pub of-requires-clause-elements : goal.of-requires-clause-elements
@@ -24,7 +26,8 @@ of-requires-clause-elements g c =
 pub ascending-requires-clause-sorted : goal.ascending-requires-clause-sorted
 ascending-requires-clause-sorted g c =
     let A = c.args.seat.now.algebra in
-    kept-sorted A c.journal.inside.basis.items _ c.in_ok-kept.ensures (subst (λ (J : Journal). Each (IsElement A) J.basis) (sym c.journal.view_is) c.requires.elements)
+    subst (Each (IsPolynomial A.p A.order)) (sym c.in_ok-kept.ensures)
+    (kept-sorted A c.journal.inside.basis.items (subst (λ (J : Journal). Each (IsElement A) J.basis) (sym c.journal.view_is) c.requires.elements))
 
 pub ascending-requires-clause-few : goal.ascending-requires-clause-few
 ascending-requires-clause-few g c =

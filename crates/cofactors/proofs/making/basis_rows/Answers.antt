@@ -6,7 +6,7 @@ use Rattle.word_model.specs.Cofactors.{rows_after}
 use Rattle.word_model.specs.declared.records.Mode.TheVariants.{Left}
 use Rattle.word_model.specs.Inside.Sound.{IsSound, AreSound, behind, behind_all}
 use Rattle.cofactors.specs.Rows.{IsRow}
-use Rattle.cofactors.proofs.Lists.{met_fault}
+use Rattle.algebra.proofs.MetFaults.{met_fault}
 use Rattle.word_model.proofs.Journals.{behind_all-least}
 use Rattle.cofactors.proofs.RowLaws.{rows_after-step, entries_reach-step, entries_reach-over, sound-step, behind-step, length-rows_after}
 use Rattle.cofactors.proofs.making.basis_rows.Goals as goal

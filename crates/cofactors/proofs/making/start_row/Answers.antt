@@ -2,7 +2,7 @@ use Rattle.std.proofs.Common.{◌≢◌, length, sym, ap, ◌∙◌, subst, None
 use Rattle.word_model.specs.Jobs.{start_of}
 use Rattle.word_model.specs.Cofactors.{start_row}
 use Rattle.word_model.specs.declared.records.Job.{Job}
-use Rattle.cofactors.proofs.Lists.{if_ok-weaker}
+use Rattle.std.proofs.lemmas.Result.{IfOk-weaker}
 use Rattle.cofactors.proofs.RowLaws.{pair_within-started}
 use Rattle.cofactors.proofs.making.start_row.Goals as goal
 
@@ -16,7 +16,7 @@ pub returns-in-Pair-clause-value : goal.returns-in-Pair-clause-value
 returns-in-Pair-clause-value g c =
     let A = c.args.seat.now.algebra in
     let n = length c.args.gens.now in
-    if_ok-weaker c.pair_row.result _ _ (λ r is. is n ∙ ap (start_row A n c.args.basis.now c.args.rows.now) (sym c.in-Pair.is)) c.pair_row.ensures.value
+    IfOk-weaker c.pair_row.result _ _ (λ r is. is n ∙ ap (start_row A n c.args.basis.now c.args.rows.now) (sym c.in-Pair.is)) c.pair_row.ensures.value
 
 pub returns-in-Pair-clause-sorted : goal.returns-in-Pair-clause-sorted
-returns-in-Pair-clause-sorted g c = if_ok-weaker c.pair_row.result _ _ (λ r is. is (length c.args.gens.now) c.requires.rows) c.pair_row.ensures.sorted
+returns-in-Pair-clause-sorted g c = IfOk-weaker c.pair_row.result _ _ (λ r is. is (length c.args.gens.now) c.requires.rows) c.pair_row.ensures.sorted

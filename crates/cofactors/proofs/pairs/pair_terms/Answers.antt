@@ -2,8 +2,8 @@ use Rattle.std.proofs.Common.{◌≡◌, length, sym, ap, ◌∙◌, arith}
 use Rattle.monomials.specs.Monomials.{lcm, minus, divides}
 use Rattle.monomials.specs.Leading.{leading_monomial}
 use Rattle.word_model.specs.Words.{Algebra}
-use Rattle.cofactors.specs.Rows.{pair_first, pair_second}
-use Rattle.cofactors.proofs.PairLaws.{Reaches, reaches}
+use Rattle.word_model.specs.Jobs.{first_cofactor, second_cofactor}
+use Rattle.word_model.proofs.PairCofactors.{Reaches, reaches}
 use Rattle.cofactors.proofs.pairs.pair_terms.Goals as goal
 use Rattle.cofactors.proofs.pairs.pair_terms.Given as given
 use Rattle.cofactors.proofs.pairs.pair_terms.Goals.{After-lcm-reached, After-minus-a, After-minus-b}
@@ -16,12 +16,12 @@ lcm_is : (g : given.Over) (c : After-lcm-reached g) → c.lcm-reached.result ≡
 lcm_is g c = c.lcm-reached.ensures ∙ (λ j. lcm (c.lead-f_lead.ensures.mono j) (c.lead-g_lead.ensures.mono j))
 
 -- the two monomials
-first_is : (g : given.Over) (c : After-minus-a g) → c.minus-a.result ≡ pair_first c.args.f.now c.args.g.now
+first_is : (g : given.Over) (c : After-minus-a g) → c.minus-a.result ≡ first_cofactor c.args.f.now c.args.g.now
 first_is g c =
     c.minus-a.ensures
     ∙ (λ j. minus ((c.lcm-reached.ensures ∙ (λ j. lcm (c.lead-f_lead.ensures.mono j) (c.lead-g_lead.ensures.mono j))) j) (c.lead-f_lead.ensures.mono j))
 
-second_is : (g : given.Over) (c : After-minus-b g) → c.minus-b.result ≡ pair_second c.args.f.now c.args.g.now
+second_is : (g : given.Over) (c : After-minus-b g) → c.minus-b.result ≡ second_cofactor c.args.f.now c.args.g.now
 second_is g c =
     c.minus-b.ensures
     ∙ (λ j. minus ((c.lcm-reached.ensures ∙ (λ j. lcm (c.lead-f_lead.ensures.mono j) (c.lead-g_lead.ensures.mono j))) j) (c.lead-g_lead.ensures.mono j))
@@ -72,7 +72,7 @@ returns-clause-second_factor g c =
     let prime : c.field.result ≡ c.args.seat.now.algebra.p =
     c.field.ensures ∙ ap (λ (A : Algebra). A.p) (c.algebra.ensures ∙ c.leading_number-2.ensures.algebra ∙ c.leading_number.ensures.algebra) in
     record {
-      some = c.quotient-k.ensures.some;
-      small = omega (arith, c.quotient-k.ensures.small, prime);
+      some = c.div-k.ensures.not_zero c.in_ok-x.ensures.some;
+      small = omega (arith, c.div-k.ensures.in_range, prime);
       vars = ap length (second_is g at.After-minus-b) ∙ (reach g at.After-lcm-reached).second_vars;
     }

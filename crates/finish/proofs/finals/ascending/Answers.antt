@@ -5,7 +5,8 @@ use Rattle.word_model.specs.Words.{Algebra}
 use Rattle.word_model.specs.Finished.{Final}
 use Rattle.word_model.specs.Machine.{IsElement}
 use Rattle.finish.specs.Finishing.{add_final}
-use Rattle.finish.proofs.Finishing.{met_fault, has_finals-next, has_finals-over}
+use Rattle.algebra.proofs.MetFaults.{met_fault}
+use Rattle.finish.proofs.Finishing.{has_finals-next, has_finals-over}
 use Rattle.finish.proofs.finals.ascending.Goals as goal
 
 pub loop-place-preserved : goal.loop-place-preserved

@@ -4,3 +4,4 @@ pub mod Options
 pub mod Places
 pub mod Powers
 pub mod Stopping
+pub mod Texts

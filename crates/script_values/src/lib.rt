@@ -1,6 +1,7 @@
 //! The values of scripts with their rings, names and operations, and what an evaluation of them answers.
 #![tactic(auto)]
 
+pub mod assigning;
 mod budget;
 mod environment;
 pub mod names;

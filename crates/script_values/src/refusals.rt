@@ -34,8 +34,8 @@ pub fn write_refusal(text: &mut Vec<u8>, line: u32, refusal: &Refusal) -> Result
     Ok(())
 }
 
-// Appends a number in decimal.
-fn write_number<I: Integer>(text: &mut Vec<u8>, number: I) -> Result<(), AllocError>
+/// Appends a number in decimal.
+pub(crate) fn write_number<I: Integer>(text: &mut Vec<u8>, number: I) -> Result<(), AllocError>
     ensures { OnOk result (text.new.items ≡ text.old.items ++ I.text number) }
 {
     let mut digits = Buffer::new();
@@ -55,9 +55,33 @@ fn write_words(text: &mut Vec<u8>, refusal: &Refusal) -> Result<(), AllocError>
         Refusal::Index => text.extend_from_slice(b"Index"),
         Refusal::ZeroDivisor => text.extend_from_slice(b"ZeroDivisor"),
         Refusal::Limit => text.extend_from_slice(b"Limit"),
+        Refusal::Characteristic(p) => write_numbered(text, b"Characteristic ", *p),
+        Refusal::BadOrder => text.extend_from_slice(b"BadOrder"),
+        Refusal::NotBuilt => text.extend_from_slice(b"NotBuilt"),
+        Refusal::Coefficient(i, j) => write_pair(text, b"Coefficient ", *i, *j),
+        Refusal::Profile(i, j) => write_pair(text, b"Profile ", *i, *j),
+        Refusal::Ordering(i, j) => write_pair(text, b"Ordering ", *i, *j),
+        Refusal::NonDegeneracy(i, j, k, rest) => write_triple(text, *i, *j, *k, rest.as_slice()),
+        Refusal::BudgetSpent(budget) => write_numbered(text, b"BudgetSpent ", *budget),
+        Refusal::BasisFull => text.extend_from_slice(b"BasisFull"),
         Refusal::DegreeOver => text.extend_from_slice(b"DegreeOver"),
-        _ => Err(AllocError),
     }
+}
+
+// Appends a word with a number behind it.
+fn write_numbered<I: Integer>(text: &mut Vec<u8>, word: &[u8], number: I) -> Result<(), AllocError>
+    ensures { OnOk result (text.new.items ≡ text.old.items ++ (word.now ++ I.text number)) }
+{
+    text.extend_from_slice(word)?;
+    write_number(text, number)
+}
+
+// Appends a word with two numbers behind it.
+fn write_pair(text: &mut Vec<u8>, word: &[u8], i: u8, j: u8) -> Result<(), AllocError>
+    ensures { OnOk result (text.new.items ≡ text.old.items ++ (word.now ++ pair_text i j)) }
+{
+    write_numbered(text, word, i)?;
+    write_numbered(text, b" ", j)
 }
 
 // Appends a word with a name behind it.
@@ -66,4 +90,14 @@ fn write_named(text: &mut Vec<u8>, word: &[u8], name: &[u8]) -> Result<(), Alloc
 {
     text.extend_from_slice(word)?;
     text.extend_from_slice(name)
+}
+
+// Appends the words of a triple of variables that leaves a rest.
+fn write_triple(text: &mut Vec<u8>, i: u8, j: u8, k: u8, rest: &[u8]) -> Result<(), AllocError>
+    ensures { OnOk result (text.new.items ≡ text.old.items
+        ++ (codes "NonDegeneracy " ++ (pair_text i j ++ (codes " " ++ (decimal k ++ (codes " " ++ rest.now)))))) }
+{
+    write_pair(text, b"NonDegeneracy ", i, j)?;
+    write_numbered(text, b" ", k)?;
+    write_named(text, b" ", rest)
 }

@@ -6,3 +6,4 @@ pub mod Merging
 pub mod Reordering
 pub mod InPlace
 pub mod Gathered
+pub mod Rooms

@@ -14,7 +14,7 @@ use Rattle.monomials.proofs.Canonical.{from_terms-canonical, from_terms-IsPermut
 use Rattle.monomials.proofs.Coefficients.{indicator, coefficient_at-weigh}
 use Rattle.monomials.proofs.OrderLaws.{order_cmp_total, order_cmp_tied}
 use Rattle.monomials.proofs.Weights.{weigh-IsPermutation}
-use Rattle.gpoly.specs.Sorting.{IsFalling}
+use Rattle.gpoly.specs.Inside.Sorting.{IsFalling}
 use Rattle.gpoly.specs.Terms.{IsTermList}
 use Rattle.gpoly.proofs.Lists.{Each-IsPermutation}
 use Rattle.gpoly.proofs.Sorting.{above_first}

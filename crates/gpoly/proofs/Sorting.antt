@@ -16,7 +16,7 @@ use Rattle.monomials.proofs.Keys.{Each-append, Each-first, Each-second, EachKey-
 use Rattle.monomials.proofs.OrderLaws.{order_cmp_total, order_cmp_tied}
 use Rattle.gpoly.specs.declared.Term.{Term}
 use Rattle.gpoly.specs.Terms.{pair_of, pairs_of}
-use Rattle.gpoly.specs.Sorting.{own, rank_cmp, IsNotBelow, IsFalling}
+use Rattle.gpoly.specs.Inside.Sorting.{own, rank_cmp, IsNotBelow, IsFalling}
 use Rattle.gpoly.proofs.Lists.{Each-reverse, Each-reversed, Each-from_get_or, map-reverse, reverse-cons}
 use Rattle.gpoly.proofs.TermLists.{reverse-cons_nonzero, vars_at}
 

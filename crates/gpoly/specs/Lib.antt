@@ -1,4 +1,3 @@
 pub mod Terms
-pub mod Sorting
 pub mod Sums
-pub mod Leads
+pub mod Inside

@@ -1,13 +1,14 @@
 //! Sums that are gathered in buckets.
 
-ghost use Rattle.std.specs.Prelude.{◌≡◌, ℕ, ◌+◌, ◌^◌, ◌<◌, ◌≤◌, IfOk, OnOk, MatchOption, List, [], ◌∷◌, map, drop, length, Some, None};
+ghost use Rattle.std.specs.Prelude.{◌≡◌, ℕ, ◌+◌, ◌^◌, ◌<◌, ◌≤◌, IfOk, OnOk, MatchOption, List, [], ◌∷◌, map, drop, get_or, length, Some, None};
 ghost use Rattle.std.specs.Result.{OnErr};
 ghost use Rattle.monomials.specs.Monomials.{degree};
 ghost use Rattle.monomials.specs.Orders.{order_cmp};
 ghost use Rattle.monomials.specs.Polynomials.{Each, HasVars, IsPolynomial, poly_add};
 ghost use Rattle.gpoly.specs.Terms.{pair_of, pairs_of, IsTermList};
-ghost use Rattle.gpoly.specs.Sums.{poly_sum, AreSorted};
-ghost use Rattle.gpoly.specs.Leads.{greater_lead, greatest_lead, leads_with, number_at, numbers_from, without, IsLead};
+ghost use Rattle.gpoly.specs.Sums.{poly_sum, AreSorted, HasRoom};
+ghost use Rattle.gpoly.specs.Inside.Leads.{greater_lead, greatest_lead, leads_with, number_at, numbers_from, without, IsLead};
+ghost use Rattle.gpoly.specs.Inside.Spilling.{Fits, Takes};
 
 use crate::{GPoly, Term, merge};
 use monomials::{Expo, Order};
@@ -25,8 +26,8 @@ const ROOM: [usize; 13] = [
 ];
 
 /// A polynomial under many additions, kept as polynomials of growing length whose sum it is, so that
-/// a short one that is added meets few terms: bucket k, counted from 0, has at most 4^(k+1) terms,
-/// up to bucket 12. The field and the order are the caller's, the same in all calls.
+/// a short one that is added meets few terms (`HasRoom`). The field and the order are the caller's,
+/// the same in all calls.
 #[derive(Debug, Drop)]
 pub struct Buckets {
     buckets: Vec<Bucket>,
@@ -39,6 +40,10 @@ impl Model for Buckets {
     ghost Value = { List Polynomial };
 
     ghost view = { λ b. b.buckets.items };
+
+    ghost use Rattle.gpoly.specs.Sums.{HasRoom};
+
+    ghost invariant = { λ b. HasRoom b.buckets.items };
 }
 
 impl Buckets {
@@ -99,7 +104,7 @@ impl Buckets {
         ensures refused { OnErr result (poly_sum (order_cmp order.now.rows) field self.new
             ≡ poly_sum (order_cmp order.now.rows) field self.old) }
     {
-        let count = f.terms.len();
+        let count = f.terms().len();
         let k = level(count);
         self.make_room(alloc, field, order, k, count)?;
         self.put(alloc, field, order, k, f)
@@ -133,10 +138,12 @@ impl Buckets {
     ) -> Result<(), AllocError>
         requires sorted { AreSorted field order.now self.old }
         requires level { k ≤ 13 }
+        requires fits { Fits k count }
         ensures sorted { AreSorted field order.now self.new }
         ensures value { poly_sum (order_cmp order.now.rows) field self.new
             ≡ poly_sum (order_cmp order.now.rows) field self.old }
         ensures reached { OnOk result (k < length self.new) }
+        ensures room { OnOk result (Fits k (length (get_or self.new k []) + count)) }
     {
         let mut top = self.first_with_room(k, count);
         self.reach(alloc, field, order, top)?;
@@ -153,6 +160,7 @@ impl Buckets {
         requires { k ≤ 13 }
         ensures above { k ≤ result }
         ensures level { result ≤ 13 }
+        ensures takes { Takes k count self.now result }
     {
         let mut top = k;
         let mut coming = count;
@@ -168,7 +176,9 @@ impl Buckets {
     }
 
     // How many terms bucket k has.
-    fn count(&self, k: usize) -> usize {
+    fn count(&self, k: usize) -> usize
+        ensures { result ≡ length (get_or self.now k []) }
+    {
         match self.buckets.get(k) {
             Some(bucket) => bucket.terms().len(),
             None => 0,
@@ -184,10 +194,12 @@ impl Buckets {
         k: usize,
     ) -> Result<(), AllocError>
         requires sorted { AreSorted field order.now self.old }
+        requires level { k ≤ 13 }
         ensures sorted { AreSorted field order.now self.new }
         ensures value { poly_sum (order_cmp order.now.rows) field self.new
             ≡ poly_sum (order_cmp order.now.rows) field self.old }
         ensures reached { OnOk result (k < length self.new) }
+        ensures same { (j : ℕ) → get_or self.new j [] ≡ get_or self.old j [] }
     {
         while self.buckets.len() <= k {
             self.buckets.push(Bucket::new(alloc))?;
@@ -205,10 +217,14 @@ impl Buckets {
     ) -> Result<(), AllocError>
         requires sorted { AreSorted field order.now self.old }
         requires inside { k + 1 < length self.old }
+        requires room { Fits (k + 1) (length (get_or self.old k []) + length (get_or self.old (k + 1) [])) }
         ensures sorted { AreSorted field order.now self.new }
         ensures value { poly_sum (order_cmp order.now.rows) field self.new
             ≡ poly_sum (order_cmp order.now.rows) field self.old }
         ensures length { length self.new ≡ length self.old }
+        ensures empty { OnOk result (get_or self.new k [] ≡ []) }
+        ensures below { (j : ℕ) → j < k → get_or self.new j [] ≡ get_or self.old j [] }
+        ensures short { HasRoom self.new }
     {
         let _p = field.p();
         let sum = self.buckets[k].plus(alloc, field, order, &self.buckets[k + 1])?;
@@ -229,6 +245,7 @@ impl Buckets {
         requires sorted { AreSorted field order.now self.old }
         requires f_sorted { IsPolynomial field order.now f }
         requires inside { k < length self.old }
+        requires room { Fits k (length (get_or self.old k []) + length f) }
         ensures sorted { AreSorted field order.now self.new }
         ensures value { OnOk result (poly_sum (order_cmp order.now.rows) field self.new
             ≡ poly_add (order_cmp order.now.rows) field (poly_sum (order_cmp order.now.rows) field self.old) f) }
@@ -474,7 +491,8 @@ fn sum_of(
 
 // The bucket for so many terms.
 fn level(count: usize) -> usize
-    ensures { result ≤ 13 }
+    ensures level { result ≤ 13 }
+    ensures fits { Fits result count }
 {
     let mut k = 0;
     while k < LAST && count > room(k) {

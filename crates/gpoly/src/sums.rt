@@ -5,7 +5,7 @@ ghost use Rattle.std.specs.List.Sorted.{IsPermutation};
 ghost use Rattle.monomials.specs.Orders.{order_cmp};
 ghost use Rattle.monomials.specs.Polynomials.{HasNumbers, HasVars, IsAbove, IsCanonical, insert_term, from_terms};
 ghost use Rattle.gpoly.specs.Terms.{pairs_of};
-ghost use Rattle.gpoly.specs.Sorting.{rank_cmp, IsNotBelow, IsFalling};
+ghost use Rattle.gpoly.specs.Inside.Sorting.{rank_cmp, IsNotBelow, IsFalling};
 
 use crate::{Term, push_nonzero};
 use monomials::{Expo, Order};

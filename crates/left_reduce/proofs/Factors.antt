@@ -1,6 +1,5 @@
 -- Leading terms and multiples, as the program makes them.
-use Rattle.std.proofs.Common.{◌≡◌, ◌≢◌, ℕ, ◌-◌, ◌<◌, ◌≤◌, max, nat_le, true, List, [], ◌∷◌, length, Some, refl, sym, ◌∙◌, arith}
-use Rattle.std.proofs.lemmas.Bool.{and_from, le-leb}
+use Rattle.std.proofs.Common.{◌≡◌, ◌≢◌, ℕ, ◌-◌, ◌<◌, ◌≤◌, true, List, [], ◌∷◌, length, Some, refl, sym, ◌∙◌}
 use Rattle.std.specs.declared.cmp.Ordering.{Ordering}
 use Rattle.monomials.specs.Monomials.{Monomial, minus, lcm, divides}
 use Rattle.monomials.specs.Orders.{RowOrder}
@@ -11,34 +10,17 @@ use Rattle.word_model.specs.Words.{Algebra}
 use Rattle.word_model.specs.Conditions.{IsGAlgebra}
 use Rattle.word_model.specs.Reduction.{element, first_divisor, multiple}
 use Rattle.word_model.proofs.LeastNumbers.{Each-element, IsFirstDivisor, first_divisor-found}
+use Rattle.word_model.proofs.Multiples.{length-leading_monomial}
+use Rattle.word_model.proofs.CommonMultiples.{length-lcm, divides-lcm, divides-lcm_second}
 use Rattle.word_model.proofs.Reductions.{multiple-leading}
 
 -- ---- leading terms
-
-length-leading : (n : ℕ) (f : Polynomial) → HasVars n f → f ≢ [] → length (leading_monomial f) ≡ n
-length-leading n [] vars nonzero = absurd (nonzero refl)
-length-leading n (t ∷ f) vars nonzero = vars.0
 
 pub leading-below : (cmp : Monomial → Monomial → Ordering) (p : ℕ) (f : Polynomial) → IsCanonical cmp p f → f ≢ [] → leading_coefficient f < p
 leading-below cmp p [] h nonzero = absurd (nonzero refl)
 leading-below cmp p (t ∷ f) h nonzero = h.1
 
 -- ---- least common multiples
-
-divides-lcm_first : (a b : Monomial) → length a ≡ length b → divides a (lcm a b) ≡ true
-divides-lcm_first [] b e = refl
-divides-lcm_first (x ∷ a) [] e = absurd (omega arith)
-divides-lcm_first (x ∷ a) (y ∷ b) e =
-    let le : x ≤ max x y = omega arith in
-    and_from (nat_le x (max x y)) (divides a (lcm a b)) (le-leb x (max x y) le) (divides-lcm_first a b (omega arith))
-
-divides-lcm_second : (a b : Monomial) → length a ≡ length b → divides b (lcm a b) ≡ true
-divides-lcm_second [] [] e = refl
-divides-lcm_second [] (y ∷ b) e = absurd (omega arith)
-divides-lcm_second (x ∷ a) [] e = absurd (omega arith)
-divides-lcm_second (x ∷ a) (y ∷ b) e =
-    let le : y ≤ max x y = omega arith in
-    and_from (nat_le y (max x y)) (divides b (lcm a b)) (le-leb y (max x y) le) (divides-lcm_second a b (omega arith))
 
 -- what is known of the leading monomials of two polynomials, and of their least common multiple
 pub record Reaches (n : ℕ) (f g : Polynomial) : Type 0 where
@@ -50,18 +32,18 @@ pub record Reaches (n : ℕ) (f g : Polynomial) : Type 0 where
   pub f_quotient : length (minus (lcm (leading_monomial f) (leading_monomial g)) (leading_monomial f)) ≡ n
   pub g_quotient : length (minus (lcm (leading_monomial f) (leading_monomial g)) (leading_monomial g)) ≡ n
 
-pub reaches : (n : ℕ) (f g : Polynomial) → HasVars n f → HasVars n g → f ≢ [] → g ≢ [] → Reaches n f g
-reaches n f g f_has g_has f_nonzero g_nonzero =
+pub reaches : (A : Algebra) (f g : Polynomial) → HasVars A.order.vars f → HasVars A.order.vars g → f ≢ [] → g ≢ [] → Reaches A.order.vars f g
+reaches A f g f_has g_has f_nonzero g_nonzero =
     let a : Monomial = leading_monomial f in
     let b : Monomial = leading_monomial g in
-    let la : length a ≡ n = length-leading n f f_has f_nonzero in
-    let lb : length b ≡ n = length-leading n g g_has g_nonzero in
-    let ll : length (lcm a b) ≡ n = length-zip_with (λ x y. max x y) a b (la ∙ sym lb) ∙ la in
+    let la : length a ≡ A.order.vars = length-leading_monomial A f f_has f_nonzero in
+    let lb : length b ≡ A.order.vars = length-leading_monomial A g g_has g_nonzero in
+    let ll : length (lcm a b) ≡ A.order.vars = length-lcm a b (la ∙ sym lb) ∙ la in
     record {
       f_vars = la;
       g_vars = lb;
       lcm_vars = ll;
-      f_divides = divides-lcm_first a b (la ∙ sym lb);
+      f_divides = divides-lcm a b (la ∙ sym lb);
       g_divides = divides-lcm_second a b (la ∙ sym lb);
       f_quotient = length-zip_with (λ x y. x - y) (lcm a b) a (ll ∙ sym la) ∙ ll;
       g_quotient = length-zip_with (λ x y. x - y) (lcm a b) b (ll ∙ sym lb) ∙ ll;
@@ -87,12 +69,12 @@ pub record HasDivisor (p : ℕ) (order : RowOrder) (G : List Polynomial) (m : Mo
   pub divides_it : divides (leading_monomial (element G i)) m ≡ true
   pub quotient_vars : length (minus m (leading_monomial (element G i))) ≡ order.vars
 
-pub has_divisor : (p : ℕ) (order : RowOrder) (G : List Polynomial) (m : Monomial) (i : ℕ) → Each (IsPolynomial p order) G → length m ≡ order.vars
-    → first_divisor G m ≡ Some i → HasDivisor p order G m i
-has_divisor p order G m i sorted m_vars found =
+pub has_divisor : (A : Algebra) (G : List Polynomial) (m : Monomial) (i : ℕ) → Each (IsPolynomial A.p A.order) G → length m ≡ A.order.vars
+    → first_divisor G m ≡ Some i → HasDivisor A.p A.order G m i
+has_divisor A G m i sorted m_vars found =
     let d : IsFirstDivisor G m i = first_divisor-found G m i found in
-    let g_is : IsPolynomial p order (element G i) = Each-element (IsPolynomial p order) G i sorted d.low d.high in
-    let g_vars : length (leading_monomial (element G i)) ≡ order.vars = length-leading order.vars (element G i) g_is.vars d.nonzero in
+    let g_is : IsPolynomial A.p A.order (element G i) = Each-element (IsPolynomial A.p A.order) G i sorted d.low d.high in
+    let g_vars : length (leading_monomial (element G i)) ≡ A.order.vars = length-leading_monomial A (element G i) g_is.vars d.nonzero in
     record {
       low = d.low;
       high = d.high;

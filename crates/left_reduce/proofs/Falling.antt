@@ -8,7 +8,7 @@ use Rattle.word_model.specs.Reduction.{Target, Goes, next_step, after_step}
 use Rattle.word_model.specs.declared.records.TraceStep.{TraceStep}
 use Rattle.word_model.proofs.Ranks.{rank}
 use Rattle.word_model.proofs.Reductions.{steps_left, leading-falls, greatest-falls, tail-falls, reduce-next, normal_form_by-next, reduce_tail-next}
-use Rattle.left_reduce.specs.Steps.{target_by, reduction_by}
+use Rattle.left_reduce.specs.Inside.Steps.{target_by, reduction_by}
 use Rattle.left_reduce.specs.declared.targets.Aim.{Aim}
 use Rattle.left_reduce.specs.declared.targets.Aim.TheVariants.{Leading, Greatest, Tail}
 

@@ -5,4 +5,3 @@ pub mod Made
 pub mod Working
 pub mod Falling
 pub mod Starts
-pub mod Longer

@@ -21,7 +21,7 @@ use Rattle.word_model.proofs.Reductions.{multiple-scale, next_step-goes}
 use Rattle.word_model.proofs.LeastNumbers.{IsFirstDivisor}
 use Rattle.word_model.proofs.Multiples.{less_step-sorted, step-cancels}
 use Rattle.word_model.proofs.Targets.{IsBelow}
-use Rattle.left_reduce.specs.Steps.{after_steps}
+use Rattle.left_reduce.specs.Inside.Steps.{after_steps}
 
 -- the part behind some terms is canonical
 IsCanonical-second : (cmp : Monomial → Monomial → Ordering) (p : ℕ) (f r : Polynomial) → IsCanonical cmp p (f ++ r) → IsCanonical cmp p r

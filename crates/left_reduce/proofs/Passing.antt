@@ -9,7 +9,7 @@ use Rattle.gpoly.specs.Terms.{IsTermList}
 use Rattle.gpoly.proofs.TermLists.{IsTermList-canonical}
 use Rattle.word_model.specs.Reduction.{first_divisor, target_at, target_or, leading_target, greatest_target}
 use Rattle.word_model.proofs.Targets.{greatest_target-behind}
-use Rattle.left_reduce.specs.Steps.{target_by, divisor_by, Passes, IsPassed}
+use Rattle.left_reduce.specs.Inside.Steps.{target_by, divisor_by, Passes, IsPassed}
 use Rattle.left_reduce.specs.declared.targets.Aim.{Aim}
 use Rattle.left_reduce.specs.declared.targets.Aim.TheVariants.{Leading, Greatest, Tail}
 

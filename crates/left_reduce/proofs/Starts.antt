@@ -7,7 +7,7 @@ use Rattle.word_model.specs.Reduction.{element}
 use Rattle.word_model.specs.Jobs.{start_of, s_polynomial}
 use Rattle.word_model.specs.declared.records.Job.{Job}
 use Rattle.word_model.specs.declared.records.Job.TheVariants.{Seed, Pair, Right}
-use Rattle.left_reduce.specs.Steps.{both_within}
+use Rattle.left_reduce.specs.Inside.Steps.{both_within}
 
 -- what follows from a value and from a fact that holds where there is one
 pub with_fact : {X E : Type 0} (r : Result X E) (W : Type 0) (P Q : X → Type 0) → OnOk r W → IfOk r P → (W → (x : X) → P x → Q x) → IfOk r Q

@@ -9,7 +9,7 @@ use Rattle.word_model.specs.Conditions.{IsGAlgebra}
 use Rattle.word_model.specs.Reduction.{Goes, next_step}
 use Rattle.word_model.specs.declared.records.TraceStep.{TraceStep}
 use Rattle.word_model.proofs.LeastNumbers.{first_divisor-found}
-use Rattle.left_reduce.specs.Steps.{target_of, target_by, whole_of, IsWork, IsNext}
+use Rattle.left_reduce.specs.Inside.Steps.{target_of, target_by, whole_of, IsWork, IsNext}
 use Rattle.left_reduce.specs.declared.targets.Aim.{Aim}
 use Rattle.left_reduce.specs.declared.targets.Target.{Target as Found}
 use Rattle.left_reduce.specs.declared.targets.Work.{Work}

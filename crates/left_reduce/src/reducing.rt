@@ -5,7 +5,7 @@ ghost use Rattle.monomials.specs.Polynomials.{Each, IsPolynomial};
 ghost use Rattle.word_model.specs.Reduction.{reduce, normal_form_by, reduce_tail};
 ghost use Rattle.gproduct.specs.Seats.{Keeps};
 ghost use Rattle.left_reduce.specs.Reductions.{behind_steps};
-ghost use Rattle.left_reduce.specs.Steps.{reduction_by};
+ghost use Rattle.left_reduce.specs.Inside.Steps.{reduction_by};
 
 use crate::stepping::all_steps;
 use crate::targets::Aim;

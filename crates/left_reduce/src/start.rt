@@ -5,7 +5,7 @@ ghost use Rattle.monomials.specs.Polynomials.{Each, IsPolynomial};
 ghost use Rattle.word_model.specs.Jobs.{start_of, s_polynomial, IsJob, NamesNonzero};
 ghost use Rattle.gproduct.specs.Seats.{Keeps};
 ghost use Rattle.left_reduce.specs.Reductions.{start_count};
-ghost use Rattle.left_reduce.specs.Steps.{both_within};
+ghost use Rattle.left_reduce.specs.Inside.Steps.{both_within};
 
 use crate::multiples::multiple;
 use algebra::ProductFault;

@@ -4,7 +4,7 @@ ghost use Rattle.std.specs.Prelude.{◌≡◌, ◌+◌, ◌<◌, ◌≤◌, IfOk
 ghost use Rattle.monomials.specs.Polynomials.{Polynomial, Each, IsPolynomial};
 ghost use Rattle.word_model.specs.Reduction.{first_divisor, next_step};
 ghost use Rattle.gproduct.specs.Seats.{Keeps};
-ghost use Rattle.left_reduce.specs.Steps.{target_of, next_of, IsSorted, products_of, after_steps, reduction_by};
+ghost use Rattle.left_reduce.specs.Inside.Steps.{target_of, next_of, IsSorted, products_of, after_steps, reduction_by};
 
 use crate::multiples::multiple;
 use crate::targets::{Aim, Target, Work};

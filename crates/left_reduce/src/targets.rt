@@ -5,7 +5,7 @@ ghost use Rattle.monomials.specs.Monomials.{Monomial};
 ghost use Rattle.monomials.specs.Orders.{order_cmp};
 ghost use Rattle.monomials.specs.Polynomials.{Polynomial, Each, HasVars, IsPolynomial, poly_add};
 ghost use Rattle.gpoly.specs.Sums.{poly_sum, AreSorted};
-ghost use Rattle.left_reduce.specs.Steps.{target_of, target_by, divisor_by, whole_of, Passes, IsPassed, IsWork, IsNext};
+ghost use Rattle.left_reduce.specs.Inside.Steps.{target_of, target_by, divisor_by, whole_of, Passes, IsPassed, IsWork, IsNext};
 
 use crate::first_divisor;
 use gpoly::{Buckets, GPoly, Term};

@@ -2,7 +2,7 @@ use Rattle.std.proofs.Common.{◌∙◌, sym, ap, subst, List}
 use Rattle.std.proofs.lemmas.List.Sorted.{IsPermutation-map, IsPermutation-trans}
 use Rattle.monomials.specs.Orders.{order_cmp}
 use Rattle.gpoly.specs.declared.Term.{Term}
-use Rattle.gpoly.specs.Sorting.{IsFalling}
+use Rattle.gpoly.specs.Inside.Sorting.{IsFalling}
 use Rattle.gpoly.specs.Terms.{pair_of, pairs_of}
 use Rattle.gpoly.proofs.Lists.{map-reverse}
 use Rattle.gpoly.proofs.sums.falling_terms.Goals as goal

@@ -2,7 +2,7 @@ use Rattle.std.proofs.Common.{◌≡◌, take, List, ℤ, reverse}
 use Rattle.monomials.specs.Orders.{order_cmp}
 use Rattle.monomials.specs.Polynomials.{from_terms, HasNumbers}
 use Rattle.gpoly.specs.Terms.{pairs_of}
-use Rattle.gpoly.specs.Sorting.{IsFalling}
+use Rattle.gpoly.specs.Inside.Sorting.{IsFalling}
 use Rattle.gpoly.proofs.sums.rising_sums.Given as goal
 
 abbrev pub invariant-loop-term : goal.invariant-loop-term

@@ -7,7 +7,7 @@ use Rattle.monomials.proofs.Canonical.{from_terms-canonical}
 use Rattle.monomials.proofs.OrderLaws.{order_cmp_total, order_cmp_tied}
 use Rattle.gpoly.specs.declared.Term.{Term}
 use Rattle.gpoly.specs.Terms.{pair_of, pairs_of}
-use Rattle.gpoly.specs.Sorting.{IsFalling}
+use Rattle.gpoly.specs.Inside.Sorting.{IsFalling}
 use Rattle.gpoly.proofs.Lists.{Each-IsPermutation}
 use Rattle.gpoly.proofs.Sorting.{sum_of_sorted}
 use Rattle.gpoly.proofs.sums.summed.Goals as goal

@@ -1,5 +1,5 @@
 use Rattle.monomials.proofs.Keys.{Each-append}
-use Rattle.left_reduce.proofs.Longer.{longer}
+use Rattle.word_model.proofs.Longer.{longer}
 use Rattle.left_reduce.proofs.laws.longer_lists.Goals as goal
 
 pub returns : goal.returns

@@ -14,7 +14,7 @@ use Rattle.left_reduce.proofs.start.s_polynomial.Goals.{After-lcm-reached, After
 
 -- the leading monomials and their least common multiple
 reach : (o : given.Over) (c : After-lcm-reached o) → Reaches c.args.seat.now.algebra.order.vars c.args.f.now c.args.g.now
-reach o c = reaches c.args.seat.now.algebra.order.vars c.args.f.now c.args.g.now c.requires.f_sorted.vars c.requires.g_sorted.vars c.requires.f_nonzero c.requires.g_nonzero
+reach o c = reaches c.args.seat.now.algebra c.args.f.now c.args.g.now c.requires.f_sorted.vars c.requires.g_sorted.vars c.requires.f_nonzero c.requires.g_nonzero
 
 reached_is : (o : given.Over) (c : After-lcm-reached o) → c.lcm-reached.result ≡ lcm (leading_monomial c.args.f.now) (leading_monomial c.args.g.now)
 reached_is o c = c.lcm-reached.ensures ∙ (λ j. lcm (c.lead-f_lead.ensures.mono j) (c.lead-g_lead.ensures.mono j))

@@ -8,7 +8,7 @@ use Rattle.word_model.specs.Conditions.{IsGAlgebra}
 use Rattle.word_model.specs.Products.{degree_limit}
 use Rattle.word_model.specs.Reduction.{Ends, Undefined, Goes, next_step, Reduced}
 use Rattle.word_model.proofs.Reductions.{next_step-sorted}
-use Rattle.left_reduce.specs.Steps.{target_of, target_by, next_of, products_of, after_steps, reduction_by, whole_of, IsPassed}
+use Rattle.left_reduce.specs.Inside.Steps.{target_of, target_by, next_of, products_of, after_steps, reduction_by, whole_of, IsPassed}
 use Rattle.left_reduce.proofs.Falling.{steps_after, reduction-next, fewer_steps}
 use Rattle.left_reduce.proofs.Made.{one_more, at_end, at_over, counted-own}
 use Rattle.left_reduce.proofs.Working.{ours, IsSearched, none_at, target_at, rest_at, made}

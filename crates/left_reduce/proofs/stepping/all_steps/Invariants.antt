@@ -2,7 +2,7 @@ use Rattle.std.proofs.Common.{◌≡◌, ◌+◌, ◌≤◌, max, length}
 use Rattle.monomials.specs.Polynomials.{poly_degree}
 use Rattle.word_model.specs.Products.{degree_limit}
 use Rattle.gproduct.specs.Seats.{Keeps}
-use Rattle.left_reduce.specs.Steps.{target_by, reduction_by, after_steps, whole_of, IsWork}
+use Rattle.left_reduce.specs.Inside.Steps.{target_by, reduction_by, after_steps, whole_of, IsWork}
 use Rattle.left_reduce.proofs.Falling.{steps_after}
 use Rattle.left_reduce.proofs.stepping.all_steps.Given as goal
 

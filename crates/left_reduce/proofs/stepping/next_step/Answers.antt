@@ -24,7 +24,7 @@ divisor : (g : given.Over) (c : After-field-field g)
 divisor g c =
     let A : Algebra = c.args.seat.now.algebra in
     let t = c.args.target.now in
-    has_divisor A.p A.order (g.B.Elements.elements c.args.basis.now) t.term.mono t.index c.requires.sorted c.requires.vars c.requires.divisor
+    has_divisor A (g.B.Elements.elements c.args.basis.now) t.term.mono t.index c.requires.sorted c.requires.vars c.requires.divisor
 
 -- its leading monomial
 lead_is : (g : given.Over) (c : After-lead g) → c.lead.result.now.mono ≡ leading_monomial (element (g.B.Elements.elements c.args.basis.now) c.args.target.now.index)
@@ -64,7 +64,7 @@ mono_vars : (g : given.Over) (c : After-minus-mono g) → length c.minus-mono.re
 mono_vars g c =
     let A : Algebra = c.args.seat.now.algebra in
     let t = c.args.target.now in
-    let d = has_divisor A.p A.order (g.B.Elements.elements c.args.basis.now) t.term.mono t.index c.requires.sorted c.requires.vars c.requires.divisor in
+    let d = has_divisor A (g.B.Elements.elements c.args.basis.now) t.term.mono t.index c.requires.sorted c.requires.vars c.requires.divisor in
     ap length (mono_is g c) ∙ d.quotient_vars
 
 pub multiple-requires-clause-vars : goal.multiple-requires-clause-vars

@@ -1,7 +1,7 @@
 use Rattle.std.proofs.Common.{◌≡◌, ◌≤◌, drop, length, None, MatchOption}
 use Rattle.monomials.specs.Monomials.{degree}
 use Rattle.monomials.specs.Orders.{order_cmp}
-use Rattle.gpoly.specs.Leads.{greatest_lead}
+use Rattle.gpoly.specs.Inside.Leads.{greatest_lead}
 use Rattle.gpoly.proofs.buckets.Buckets.greatest.Given as goal
 
 abbrev pub invariant-loop-bucket : goal.invariant-loop-bucket

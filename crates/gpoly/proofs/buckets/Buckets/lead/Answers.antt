@@ -4,7 +4,7 @@ use Rattle.monomials.specs.Polynomials.{IsPolynomial, cons_nonzero}
 use Rattle.monomials.proofs.Keys.{Each-weaker}
 use Rattle.monomials.proofs.Insertion.{cons_nonzero-positive}
 use Rattle.gpoly.specs.Sums.{poly_sum, AreSorted}
-use Rattle.gpoly.specs.Leads.{without}
+use Rattle.gpoly.specs.Inside.Leads.{without}
 use Rattle.gpoly.proofs.Gathered.{terms_in, AreSorted-without, sum_at, greatest-at_least, greatest-none, fewer_terms}
 use Rattle.gpoly.proofs.buckets.Buckets.lead.Goals as goal
 use Rattle.gpoly.proofs.buckets.Buckets.lead.Goals.{After-number_at-coef}

@@ -1,6 +1,6 @@
 use Rattle.std.proofs.Common.{◌≡◌, ◌<◌, drop}
 use Rattle.monomials.specs.Orders.{order_cmp}
-use Rattle.gpoly.specs.Leads.{numbers_from}
+use Rattle.gpoly.specs.Inside.Leads.{numbers_from}
 use Rattle.gpoly.proofs.buckets.Buckets.number_at.Given as goal
 
 abbrev pub invariant-loop-bucket : goal.invariant-loop-bucket

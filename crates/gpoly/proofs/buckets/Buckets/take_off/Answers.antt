@@ -1,7 +1,7 @@
 use Rattle.std.proofs.Common.{◌≡◌, ◌<◌, ◌++◌, length, map, take, drop, get_or, set, ap, ◌∙◌, arith}
 use Rattle.std.proofs.lemmas.List.{length-set}
 use Rattle.monomials.specs.Orders.{order_cmp}
-use Rattle.gpoly.specs.Leads.{without}
+use Rattle.gpoly.specs.Inside.Leads.{without}
 use Rattle.gpoly.proofs.Gathered.{at_next, set_next}
 use Rattle.gpoly.proofs.buckets.Buckets.take_off.Goals as goal
 

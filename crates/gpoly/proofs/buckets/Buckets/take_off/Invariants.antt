@@ -1,6 +1,6 @@
 use Rattle.std.proofs.Common.{◌≡◌, ◌++◌, map, take, drop, length}
 use Rattle.monomials.specs.Orders.{order_cmp}
-use Rattle.gpoly.specs.Leads.{without}
+use Rattle.gpoly.specs.Inside.Leads.{without}
 use Rattle.gpoly.proofs.buckets.Buckets.take_off.Given as goal
 
 abbrev pub invariant-loop-k : goal.invariant-loop-k

@@ -4,7 +4,7 @@ use Rattle.monomials.specs.Polynomials.{Each, HasVars, IsPolynomial}
 use Rattle.monomials.proofs.Keys.{Each-second}
 use Rattle.gpoly.specs.Terms.{pair_of}
 use Rattle.gpoly.specs.Sums.{poly_sum}
-use Rattle.left_reduce.specs.Steps.{target_by, divisor_by, whole_of, IsPassed}
+use Rattle.left_reduce.specs.Inside.Steps.{target_by, divisor_by, whole_of, IsPassed}
 use Rattle.left_reduce.proofs.Passing.{target-here, target-none, passed-more}
 use Rattle.left_reduce.proofs.targets.Work.passing_target.Given as given
 use Rattle.left_reduce.proofs.targets.Work.passing_target.Goals as goal

@@ -1,7 +1,7 @@
 use Rattle.std.proofs.Common.{◌≡◌, length}
 use Rattle.monomials.specs.Orders.{order_cmp}
 use Rattle.gpoly.specs.Sums.{poly_sum}
-use Rattle.left_reduce.specs.Steps.{whole_of, IsWork}
+use Rattle.left_reduce.specs.Inside.Steps.{whole_of, IsWork}
 use Rattle.left_reduce.proofs.targets.Work.passing_target.Given as goal
 
 abbrev pub invariant-loop-term : goal.invariant-loop-term

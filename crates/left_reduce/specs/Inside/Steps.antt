@@ -1,4 +1,4 @@
--- What the private types of this crate stand for, in the words of the definitions. Private contracts alone cite it.
+-- What the private types of this crate stand for, in the words of the definitions.
 use Rattle.std.specs.Prelude.{◌≡◌, ℕ, ◌++◌, ◌&&◌, Bool, List, [], ◌∷◌, drop, Option, Some, None}
 use Rattle.monomials.specs.Monomials.{Monomial, minus, lcm}
 use Rattle.monomials.specs.Orders.{RowOrder, order_cmp}

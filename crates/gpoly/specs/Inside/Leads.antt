@@ -1,4 +1,4 @@
--- The leading terms of several polynomials, and what is left without those that have one monomial. Private contracts alone cite it.
+-- The leading terms of several polynomials, and what is left without those that have one monomial.
 use Rattle.std.specs.Prelude.{◌≡◌, ℕ, ◌+◌, ◌%◌, Bool, true, false, cond, List, [], ◌∷◌, map, drop, Option, Some, None}
 use Rattle.std.specs.declared.cmp.Ordering.{Ordering}
 use Rattle.std.specs.declared.cmp.Ordering.TheVariants.{Less, Equal, Greater}

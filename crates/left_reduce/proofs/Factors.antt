@@ -1,17 +1,16 @@
 -- Leading terms and multiples, as the program makes them.
 use Rattle.std.proofs.Common.{◌≡◌, ◌≢◌, ℕ, ◌-◌, ◌<◌, ◌≤◌, true, List, [], ◌∷◌, length, Some, refl, sym, ◌∙◌}
 use Rattle.std.specs.declared.cmp.Ordering.{Ordering}
-use Rattle.monomials.specs.Monomials.{Monomial, minus, lcm, divides}
+use Rattle.monomials.specs.Monomials.{Monomial, minus, divides}
 use Rattle.monomials.specs.Orders.{RowOrder}
-use Rattle.monomials.specs.Polynomials.{Polynomial, Each, HasVars, IsCanonical, IsPolynomial}
+use Rattle.monomials.specs.Polynomials.{Polynomial, Each, IsCanonical, IsPolynomial}
 use Rattle.monomials.specs.Leading.{leading_monomial, leading_coefficient}
 use Rattle.monomials.proofs.Exponents.{length-zip_with}
 use Rattle.word_model.specs.Words.{Algebra}
 use Rattle.word_model.specs.Conditions.{IsGAlgebra}
 use Rattle.word_model.specs.Reduction.{element, first_divisor, multiple}
 use Rattle.word_model.proofs.LeastNumbers.{Each-element, IsFirstDivisor, first_divisor-found}
-use Rattle.word_model.proofs.Multiples.{length-leading_monomial}
-use Rattle.word_model.proofs.CommonMultiples.{length-lcm, divides-lcm, divides-lcm_second}
+use Rattle.word_model.proofs.PairCofactors.{length-leading_monomial}
 use Rattle.word_model.proofs.Reductions.{multiple-leading}
 
 -- ---- leading terms
@@ -19,35 +18,6 @@ use Rattle.word_model.proofs.Reductions.{multiple-leading}
 pub leading-below : (cmp : Monomial → Monomial → Ordering) (p : ℕ) (f : Polynomial) → IsCanonical cmp p f → f ≢ [] → leading_coefficient f < p
 leading-below cmp p [] h nonzero = absurd (nonzero refl)
 leading-below cmp p (t ∷ f) h nonzero = h.1
-
--- ---- least common multiples
-
--- what is known of the leading monomials of two polynomials, and of their least common multiple
-pub record Reaches (n : ℕ) (f g : Polynomial) : Type 0 where
-  pub f_vars : length (leading_monomial f) ≡ n
-  pub g_vars : length (leading_monomial g) ≡ n
-  pub lcm_vars : length (lcm (leading_monomial f) (leading_monomial g)) ≡ n
-  pub f_divides : divides (leading_monomial f) (lcm (leading_monomial f) (leading_monomial g)) ≡ true
-  pub g_divides : divides (leading_monomial g) (lcm (leading_monomial f) (leading_monomial g)) ≡ true
-  pub f_quotient : length (minus (lcm (leading_monomial f) (leading_monomial g)) (leading_monomial f)) ≡ n
-  pub g_quotient : length (minus (lcm (leading_monomial f) (leading_monomial g)) (leading_monomial g)) ≡ n
-
-pub reaches : (A : Algebra) (f g : Polynomial) → HasVars A.order.vars f → HasVars A.order.vars g → f ≢ [] → g ≢ [] → Reaches A.order.vars f g
-reaches A f g f_has g_has f_nonzero g_nonzero =
-    let a : Monomial = leading_monomial f in
-    let b : Monomial = leading_monomial g in
-    let la : length a ≡ A.order.vars = length-leading_monomial A f f_has f_nonzero in
-    let lb : length b ≡ A.order.vars = length-leading_monomial A g g_has g_nonzero in
-    let ll : length (lcm a b) ≡ A.order.vars = length-lcm a b (la ∙ sym lb) ∙ la in
-    record {
-      f_vars = la;
-      g_vars = lb;
-      lcm_vars = ll;
-      f_divides = divides-lcm a b (la ∙ sym lb);
-      g_divides = divides-lcm_second a b (la ∙ sym lb);
-      f_quotient = length-zip_with (λ x y. x - y) (lcm a b) a (ll ∙ sym la) ∙ ll;
-      g_quotient = length-zip_with (λ x y. x - y) (lcm a b) b (ll ∙ sym lb) ∙ ll;
-    }
 
 -- ---- multiples
 
@@ -74,7 +44,7 @@ pub has_divisor : (A : Algebra) (G : List Polynomial) (m : Monomial) (i : ℕ) �
 has_divisor A G m i sorted m_vars found =
     let d : IsFirstDivisor G m i = first_divisor-found G m i found in
     let g_is : IsPolynomial A.p A.order (element G i) = Each-element (IsPolynomial A.p A.order) G i sorted d.low d.high in
-    let g_vars : length (leading_monomial (element G i)) ≡ A.order.vars = length-leading_monomial A (element G i) g_is.vars d.nonzero in
+    let g_vars : length (leading_monomial (element G i)) ≡ A.order.vars = length-leading_monomial A.order.vars (element G i) g_is.vars d.nonzero in
     record {
       low = d.low;
       high = d.high;

@@ -4,10 +4,9 @@ use Rattle.monomials.specs.Polynomials.{Polynomial}
 use Rattle.word_model.specs.Words.{Algebra}
 use Rattle.word_model.specs.Products.{product, variable_polynomial, in_reach}
 use Rattle.word_model.specs.Reduction.{element}
-use Rattle.word_model.specs.Jobs.{start_of, s_polynomial}
+use Rattle.word_model.specs.Jobs.{start_of, s_polynomial, both_within}
 use Rattle.word_model.specs.declared.records.Job.{Job}
 use Rattle.word_model.specs.declared.records.Job.TheVariants.{Seed, Pair, Right}
-use Rattle.left_reduce.specs.Inside.Steps.{both_within}
 
 -- what follows from a value and from a fact that holds where there is one
 pub with_fact : {X E : Type 0} (r : Result X E) (W : Type 0) (P Q : X → Type 0) → OnOk r W → IfOk r P → (W → (x : X) → P x → Q x) → IfOk r Q

@@ -2,10 +2,9 @@
 
 ghost use Rattle.std.specs.Prelude.{◌≡◌, ◌≢◌, ◌+◌, true, false, IfOk, OnOk, Err, [], length, Some, None};
 ghost use Rattle.monomials.specs.Polynomials.{Each, IsPolynomial};
-ghost use Rattle.word_model.specs.Jobs.{start_of, s_polynomial, IsJob, NamesNonzero};
+ghost use Rattle.word_model.specs.Jobs.{start_of, s_polynomial, both_within, IsJob, NamesNonzero};
 ghost use Rattle.gproduct.specs.Seats.{Keeps};
 ghost use Rattle.left_reduce.specs.Reductions.{start_count};
-ghost use Rattle.left_reduce.specs.Inside.Steps.{both_within};
 
 use crate::multiples::multiple;
 use algebra::ProductFault;

@@ -1,13 +1,12 @@
 -- What the private types of this crate stand for, in the words of the definitions.
-use Rattle.std.specs.Prelude.{◌≡◌, ℕ, ◌++◌, ◌&&◌, Bool, List, [], ◌∷◌, drop, Option, Some, None}
-use Rattle.monomials.specs.Monomials.{Monomial, minus, lcm}
+use Rattle.std.specs.Prelude.{◌≡◌, ℕ, ◌++◌, List, [], ◌∷◌, drop, Option, Some, None}
+use Rattle.monomials.specs.Monomials.{Monomial}
 use Rattle.monomials.specs.Orders.{RowOrder, order_cmp}
 use Rattle.monomials.specs.Polynomials.{Polynomial, Each, IsPolynomial, poly_add}
-use Rattle.monomials.specs.Leading.{leading_monomial}
 use Rattle.gpoly.specs.Terms.{pair_of}
 use Rattle.gpoly.specs.Sums.{poly_sum, AreSorted}
 use Rattle.word_model.specs.Words.{Algebra}
-use Rattle.word_model.specs.Reduction.{first_divisor, Target, leading_target, greatest_target, tail_target, Next, Undefined, Goes, is_within, Reduced, reduce, normal_form_by, reduce_tail}
+use Rattle.word_model.specs.Reduction.{first_divisor, Target, leading_target, greatest_target, tail_target, Next, Undefined, Goes, Reduced, reduce, normal_form_by, reduce_tail}
 use Rattle.word_model.specs.declared.records.TraceStep.{TraceStep}
 use Rattle.left_reduce.specs.declared.targets.Target.{Target as Found}
 use Rattle.left_reduce.specs.declared.targets.Aim.{Aim}
@@ -84,9 +83,3 @@ products_of Over = 0
 -- a reduction with these steps before its own
 abbrev pub after_steps : List TraceStep → Reduced → Reduced
 after_steps steps r = record r { trace = steps ++ r.trace }
-
--- whether both products of the S-polynomial of f and g are computed
-abbrev pub both_within : Polynomial → Polynomial → Bool
-both_within f g =
-    let l : Monomial = lcm (leading_monomial f) (leading_monomial g) in
-    is_within (minus l (leading_monomial f)) f && is_within (minus l (leading_monomial g)) g

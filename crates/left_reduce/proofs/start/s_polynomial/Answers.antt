@@ -6,7 +6,7 @@ use Rattle.monomials.specs.Leading.{leading_monomial, leading_coefficient}
 use Rattle.word_model.specs.Words.{Algebra}
 use Rattle.word_model.specs.Conditions.{IsGAlgebra}
 use Rattle.word_model.specs.Reduction.{quotient, multiple}
-use Rattle.left_reduce.proofs.Factors.{Reaches, reaches}
+use Rattle.word_model.proofs.PairCofactors.{Reaches, reaches}
 use Rattle.left_reduce.proofs.Made.{s_polynomial-made, minus_multiple}
 use Rattle.left_reduce.proofs.start.s_polynomial.Given as given
 use Rattle.left_reduce.proofs.start.s_polynomial.Goals as goal
@@ -14,7 +14,7 @@ use Rattle.left_reduce.proofs.start.s_polynomial.Goals.{After-lcm-reached, After
 
 -- the leading monomials and their least common multiple
 reach : (o : given.Over) (c : After-lcm-reached o) → Reaches c.args.seat.now.algebra.order.vars c.args.f.now c.args.g.now
-reach o c = reaches c.args.seat.now.algebra c.args.f.now c.args.g.now c.requires.f_sorted.vars c.requires.g_sorted.vars c.requires.f_nonzero c.requires.g_nonzero
+reach o c = reaches c.args.seat.now.algebra.order.vars c.args.f.now c.args.g.now c.requires.f_sorted.vars c.requires.g_sorted.vars c.requires.f_nonzero c.requires.g_nonzero
 
 reached_is : (o : given.Over) (c : After-lcm-reached o) → c.lcm-reached.result ≡ lcm (leading_monomial c.args.f.now) (leading_monomial c.args.g.now)
 reached_is o c = c.lcm-reached.ensures ∙ (λ j. lcm (c.lead-f_lead.ensures.mono j) (c.lead-g_lead.ensures.mono j))
@@ -39,7 +39,7 @@ minus-requires-clause-divisible o c =
 pub multiple-requires-clause-vars : goal.multiple-requires-clause-vars
 multiple-requires-clause-vars o c =
     let at = goal.at.multiple-requires-clause-vars o c in
-    ap length (f_mono_is o at.After-minus) ∙ (reach o at.After-lcm-reached).f_quotient
+    ap length (f_mono_is o at.After-minus) ∙ (reach o at.After-lcm-reached).first_vars
 
 pub minus-requires-2-clause-same_length : goal.minus-requires-2-clause-same_length
 minus-requires-2-clause-same_length o c =
@@ -54,7 +54,7 @@ minus-requires-2-clause-divisible o c =
 pub multiple-requires-2-clause-vars : goal.multiple-requires-2-clause-vars
 multiple-requires-2-clause-vars o c =
     let at = goal.at.multiple-requires-2-clause-vars o c in
-    ap length (g_mono_is o at.After-minus-2) ∙ (reach o at.After-lcm-reached).g_quotient ∙ ap (λ (a : Algebra). a.order.vars) (sym c.in_ok-first.ensures.algebra)
+    ap length (g_mono_is o at.After-minus-2) ∙ (reach o at.After-lcm-reached).second_vars ∙ ap (λ (a : Algebra). a.order.vars) (sym c.in_ok-first.ensures.algebra)
 
 -- the second multiple, in the algebra that the seat had at first
 second_is : (o : given.Over) (c : In_ok-second o) → c.in_ok-second.second ≡ multiple c.args.seat.now.algebra 1 c.minus-2.result c.args.g.now
@@ -92,5 +92,5 @@ returns-clause-value o c =
     ∙ (λ j. poly_add (order_cmp (order_is j).rows) (p_is j) first (poly_scale (p_is j) (negated j) second))
     ∙ ap (poly_add (order_cmp A.order.rows) A.p first) (minus_multiple A.p k A.order second (omega (arith, less)) less (second_sorted o at.In_ok-second))
     ∙ s_polynomial-made A ok c.args.f.now c.args.g.now c.minus.result c.minus-2.result first second k c.requires.g_sorted
-    (ap length (g_mono_is o at.After-minus-2) ∙ (reach o at.After-lcm-reached).g_quotient) (f_mono_is o at.After-minus) (g_mono_is o at.After-minus-2)
+    (ap length (g_mono_is o at.After-minus-2) ∙ (reach o at.After-lcm-reached).second_vars) (f_mono_is o at.After-minus) (g_mono_is o at.After-minus-2)
     c.in_ok-first.ensures.value (second_is o at.In_ok-second) number

@@ -1,8 +1,7 @@
 use Rattle.std.proofs.Common.{◌≡◌, ◌-◌, ◌<◌, Some, length, refl, sym, ap, ◌∙◌, subst, arith}
 use Rattle.std.proofs.lemmas.List.{get_or_read_under}
 use Rattle.word_model.specs.Products.{product, variable_polynomial, in_reach}
-use Rattle.word_model.specs.Jobs.{start_of, s_polynomial, IsJob}
-use Rattle.left_reduce.specs.Inside.Steps.{both_within}
+use Rattle.word_model.specs.Jobs.{start_of, s_polynomial, both_within, IsJob}
 use Rattle.left_reduce.proofs.Starts.{with_fact, start-seed, start-pair, start-pair_over, start-right, start-right_over}
 use Rattle.left_reduce.proofs.start.start_of.Goals as goal
 

@@ -1,19 +1,33 @@
 //! The functions of scripts: one arm of `apply` for each.
 #![tactic(auto)]
 
-ghost use Rattle.std.specs.Prelude.{◌≡◌, ◌≤◌, length, IfOk};
+ghost use Rattle.std.specs.Prelude.{◌≡◌, ◌<◌, IfOk};
 ghost use Rattle.monomials.specs.Polynomials.{Each};
 ghost use Rattle.script_model.specs.Functions as spec;
 ghost use Rattle.script_values.specs.Gives.{Gives};
-ghost use Rattle.script_values.specs.Values.{ArePolynomials, IsValueOf};
+ghost use Rattle.script_values.specs.Values.{IsValueOf};
 
-use gpoly::GPoly;
-use gproduct::TableSeat;
+use cofactor_rows::cofactors;
+use generators::joined;
+use gproduct::{Steps, TableSeat};
+use normal_forms::normal_form;
 use plural_syntax::Function;
 use run_records::Engine;
-use script_model::values::{Refusal, Value, copy_polys};
+use script_model::values::{Refusal, Value};
 use script_values::{Scope, Stop};
 use sqlite_items::Items;
+use std::marker::Brand;
+use std::sync::ledger::{Blank, Ledger};
+use std_lists::std_list;
+use summary::summary;
+
+mod cofactor_rows;
+mod generators;
+mod left_basis;
+mod normal_forms;
+mod std_lists;
+mod stopping;
+mod summary;
 
 /// Whether a function is built; one that is not is refused before its arguments.
 pub fn is_built(function: Function) -> bool
@@ -25,8 +39,7 @@ pub fn is_built(function: Function) -> bool
     )
 }
 
-/// A function at its arguments. (What follows a run is to come.)
-#[tactic(auto, unfolding(script_model::specs::Functions::apply))]
+/// A function at its arguments.
 pub fn apply<E: Engine>(
     scope: &Scope,
     engine: &mut E,
@@ -42,13 +55,43 @@ pub fn apply<E: Engine>(
     ensures ready { E.can_run engine.new }
     ensures seat { seat.new.algebra ≡ seat.old.algebra }
 {
+    let arguments = arguments.as_slice();
+    counted_apply::<E, Brand>(scope, engine, seat, function, arguments, Blank::new(1))
+}
+
+// The same, with the products that it takes counted on the blank.
+#[tactic(auto, unfolding(script_model::specs::Functions::apply))]
+fn counted_apply<E: Engine, L: Ledger>(
+    scope: &Scope,
+    engine: &mut E,
+    seat: &mut TableSeat,
+    function: Function,
+    arguments: &[Value],
+    blank: Blank,
+) -> Result<Value, Stop>
+    requires ready { E.can_run engine.old }
+    requires seat { seat.old.algebra ≡ scope.now.ring.algebra }
+    requires of_ring { Each (IsValueOf scope.now.ring.algebra) arguments.now }
+    requires name { blank.name ≡ L.name }
+    requires parts { blank.parts ≡ L.parts }
+    requires some { 0 < blank.parts }
+    ensures value { Gives result (spec.apply scope.now.ring scope.now.budget function arguments.now) }
+    ensures of_ring { IfOk result (IsValueOf scope.now.ring.algebra) }
+    ensures ready { E.can_run engine.new }
+    ensures seat { seat.new.algebra ≡ seat.old.algebra }
+{
+    let mut steps = Steps::<L>::start(blank);
     match function {
-        Function::Ideal => ideal(scope, arguments.as_slice()),
-        _ => Err(Stop::Memory),
+        Function::Ideal => ideal(scope, arguments),
+        Function::Std => std_list(scope, engine, seat, arguments, &mut steps),
+        Function::Nf | Function::Reduce => normal_form(scope, seat, arguments, &mut steps),
+        Function::Cofactors => cofactors(scope, engine, seat, arguments, &mut steps),
+        Function::Summary => summary(scope, engine, seat, arguments, &mut steps),
+        _ => Err(Stop::Refused(Refusal::NotBuilt)),
     }
 }
 
-// The ideal of polys and ideals.
+/// The ideal of polys and ideals, joined in order.
 pub fn ideal(scope: &Scope, arguments: &[Value]) -> Result<Value, Stop>
     requires { Each (IsValueOf scope.now.ring.algebra) arguments.now }
     ensures value { Gives result (spec.ideal arguments.now) }
@@ -56,49 +99,4 @@ pub fn ideal(scope: &Scope, arguments: &[Value]) -> Result<Value, Stop>
 {
     let generators = joined(scope, arguments)?;
     Ok(Value::Ideal(generators))
-}
-
-// Polys and ideals, joined in order.
-fn joined(scope: &Scope, arguments: &[Value]) -> Result<Items<GPoly>, Stop>
-    requires { Each (IsValueOf scope.now.ring.algebra) arguments.now }
-    ensures value { Gives result (spec.joined arguments.now) }
-    ensures of_ring { IfOk result (ArePolynomials scope.now.ring.algebra) }
-    ensures few { IfOk result (λ gens. length gens ≤ 4096) }
-{
-    let generators = all_generators(scope, arguments)?;
-    if generators.len() > 4096 {
-        return Err(Stop::Refused(Refusal::Limit));
-    }
-    Ok(generators)
-}
-
-// The same, however many there are.
-fn all_generators(scope: &Scope, arguments: &[Value]) -> Result<Items<GPoly>, Stop>
-    requires { Each (IsValueOf scope.now.ring.algebra) arguments.now }
-    ensures value { Gives result (spec.all_generators arguments.now) }
-    ensures of_ring { IfOk result (ArePolynomials scope.now.ring.algebra) }
-{
-    let mut found = Items::new(scope.alloc);
-    for argument in arguments {
-        let more = generators_of(scope, argument)?;
-        found.append(more)?;
-    }
-    Ok(found)
-}
-
-// The polynomials of a poly or an ideal.
-fn generators_of(scope: &Scope, value: &Value) -> Result<Items<GPoly>, Stop>
-    requires { IsValueOf scope.now.ring.algebra value.now }
-    ensures value { Gives result (spec.generators_of value.now) }
-    ensures of_ring { IfOk result (ArePolynomials scope.now.ring.algebra) }
-{
-    match value {
-        Value::Poly(f) => {
-            let mut generators = Items::new(scope.alloc);
-            generators.push(f.copy(scope.alloc)?)?;
-            Ok(generators)
-        }
-        Value::Ideal(generators) => Ok(copy_polys(scope.alloc, generators.as_slice())?),
-        _ => Err(Stop::Refused(Refusal::Kind)),
-    }
 }

@@ -2,7 +2,7 @@ use Rattle.std.proofs.Common.{◌≡◌, drop}
 use Rattle.script_model.specs.Functions.{all_generators}
 use Rattle.script_values.specs.Prepended.{prepended}
 use Rattle.script_values.specs.Values.{ArePolynomials}
-use Rattle.script_functions.proofs.all_generators.Given as goal
+use Rattle.script_functions.proofs.generators.all_generators.Given as goal
 
 abbrev pub invariant-loop-argument : goal.invariant-loop-argument
 invariant-loop-argument l = record {

@@ -1,4 +1,3 @@
 pub mod Lists
 pub mod Finals
-pub mod PairLaws
 pub mod RowLaws

@@ -5,7 +5,8 @@ use Rattle.std.proofs.lemmas.Bool.{eqb-true, and_parts, cases_Bool, false≢true
 use Rattle.std.proofs.lemmas.List.Folds.{list_all-append}
 use Rattle.std.proofs.lemmas.Bool.Decides.{nat_tests}
 use Rattle.monomials.specs.Polynomials.{Each}
-use Rattle.plural_text.specs.Names.{is_letter, is_digit, is_name_byte, IsName}
+use Rattle.plural_lexer.specs.Letters.{is_letter, is_digit, is_name_byte}
+use Rattle.plural_text.specs.Names.{IsName}
 use Rattle.plural_text.specs.Readings.{is_sign, is_caret, is_number}
 
 -- a byte of a class is another than one outside it

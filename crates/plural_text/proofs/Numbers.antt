@@ -6,7 +6,7 @@ use Rattle.std.specs.Fmt.{decimal}
 use Rattle.std.proofs.lemmas.Bool.{cases_Bool, le-leb}
 use Rattle.std.proofs.lemmas.Bool.Decides.{nat_tests}
 use Rattle.std.proofs.lemmas.Fmt.{decimal_by_steps, decimal_nonempty}
-use Rattle.plural_text.specs.Names.{is_digit}
+use Rattle.plural_lexer.specs.Letters.{is_digit}
 use Rattle.plural_text.specs.Readings.{read_digits, read_number, is_number}
 use Rattle.plural_text.proofs.Characters.{all_append}
 

@@ -9,7 +9,8 @@ use Rattle.std.proofs.lemmas.Slice.Eq.{bytes_eq-Decides}
 use Rattle.std.proofs.lemmas.Bool.Decides.{nat_tests}
 use Rattle.monomials.specs.Polynomials.{Each}
 use Rattle.word_model.specs.Texts.{power_text}
-use Rattle.plural_text.specs.Names.{IsName, AreDifferent, is_name_byte, is_digit}
+use Rattle.plural_lexer.specs.Letters.{is_name_byte, is_digit}
+use Rattle.plural_text.specs.Names.{IsName, AreDifferent}
 use Rattle.plural_text.specs.Readings.{is_caret, is_number, read_number, read_name, read_power}
 use Rattle.plural_text.proofs.Characters.{is_power_byte, all_weaker, all_append, none_found, found_behind, name_in_power, digit_in_name, name_no_caret, name_bytes, name_is_no_number}
 use Rattle.plural_text.proofs.Numbers.{digits_of_decimal, read_number-decimal}

@@ -14,7 +14,8 @@ use Rattle.monomials.specs.Monomials.{Monomial, degree, plus, one}
 use Rattle.monomials.specs.Polynomials.{Each}
 use Rattle.monomials.proofs.Exponents.{sum-zeros}
 use Rattle.word_model.specs.Texts.{power_text, power_texts}
-use Rattle.plural_text.specs.Names.{IsName, AreDifferent, AreNames, is_digit}
+use Rattle.plural_lexer.specs.Letters.{is_digit}
+use Rattle.plural_text.specs.Names.{IsName, AreDifferent, AreNames}
 use Rattle.plural_text.specs.Readings.{read_number, read_name, times_power, times_factor, times_factors, read_product, PolyTerm, power_of}
 use Rattle.plural_text.proofs.Characters.{is_power_byte, is_product_byte, all_weaker, all_append, power_in_product, power_no_star}
 use Rattle.plural_text.proofs.Numbers.{digits_of_decimal, read_number-decimal, decimal_is_number}

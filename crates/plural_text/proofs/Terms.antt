@@ -13,7 +13,8 @@ use Rattle.monomials.specs.Monomials.{Monomial, degree, one}
 use Rattle.monomials.specs.Polynomials.{Each}
 use Rattle.word_model.specs.Texts.{number_text, power_text, power_texts, monomial_text, term_text, with_sign}
 use Rattle.monomials.proofs.Exponents.{sum-zeros}
-use Rattle.plural_text.specs.Names.{AreNames, IsName, is_digit}
+use Rattle.plural_lexer.specs.Letters.{is_digit}
+use Rattle.plural_text.specs.Names.{AreNames, IsName}
 use Rattle.plural_text.specs.Readings.{is_sign, read_product, read_term, PolyTerm}
 use Rattle.plural_text.proofs.Characters.{is_power_byte, is_product_byte, all_weaker, other_byte, product_no_sign}
 use Rattle.plural_text.proofs.Numbers.{digits_of_decimal}

@@ -1,10 +1,10 @@
 -- How the text of a term is read: a sign, and factors with `*` between them. The reader takes more than what is printed,
 -- and no clause of a public function cites it.
-use Rattle.std.specs.Prelude.{ℕ, ◌+◌, ◌-◌, ◌*◌, ◌%◌, Bool, false, ◌&&◌, ◌||◌, ◌==◌, nat_le, List, [], ◌∷◌, ◌++◌, length, replicate, take, drop, position, bytes_eq, Option, Some, None, option_and_then, if◌then◌else◌}
+use Rattle.std.specs.Prelude.{ℕ, ◌+◌, ◌-◌, ◌*◌, ◌%◌, Bool, false, ◌&&◌, ◌||◌, ◌==◌, nat_le, List, [], ◌∷◌, length, take, drop, position, bytes_eq, Option, Some, None, option_and_then, if◌then◌else◌}
 use Rattle.std.specs.List.{position_or_len, slice_split}
 use Rattle.std.specs.Option.{option_map}
 use Rattle.monomials.specs.Monomials.{Monomial, degree, plus, one, power}
-use Rattle.plural_text.specs.Names.{is_digit}
+use Rattle.plural_lexer.specs.Letters.{is_digit}
 
 -- `+` or `-`, with which a later term begins
 abbrev pub is_sign : ℕ → Bool

@@ -1,8 +1,9 @@
 -- Products with a term, by the letters of its sorted word, and products as sums of those.
-use Rattle.std.proofs.Common.{◌≡◌, ℕ, ◌+◌, ◌*◌, ◌<◌, ◌≤◌, [], ◌∷◌, ◌++◌, length, refl, sym, ap, ◌∙◌, subst, arith, append_assoc, append-nil}
+use Rattle.std.proofs.Common.{◌≡◌, ◌≢◌, ℕ, zero, suc, ◌+◌, ◌*◌, ◌<◌, ◌≤◌, [], ◌∷◌, ◌++◌, length, refl, sym, ap, ◌∙◌, subst, arith, append_assoc, append-nil, mod-eq_of_lt}
+use Rattle.std.specs.declared.cmp.Ordering.{Ordering}
 use Rattle.monomials.specs.Monomials.{Monomial, degree, variable}
 use Rattle.monomials.specs.Orders.{order_cmp}
-use Rattle.monomials.specs.Polynomials.{Polynomial, HasVars, IsPolynomial, poly_add, poly_scale, poly_degree, sum_over}
+use Rattle.monomials.specs.Polynomials.{Polynomial, HasVars, IsPolynomial, cons_nonzero, from_terms, poly_add, poly_scale, poly_degree, sum_over}
 use Rattle.monomials.proofs.Modulo.{Same, same_refl, same_add}
 use Rattle.monomials.proofs.Weights.{weigh, weigh-append, weigh-sum, weigh-scaled, weigh_equal, weigh-map_key, weigh_alike_on, weigh-poly_scale, weigh-poly_add}
 use Rattle.monomials.proofs.OrderLaws.{order_cmp_tied}
@@ -15,6 +16,11 @@ use Rattle.word_model.proofs.Letters.{IsWord-sorted_word, sorted_word-variable, 
 use Rattle.word_model.proofs.NormalForms.{word_weight, word_weight-sorted, row_weight, weigh-word_value, weigh-product, product_is_polynomial, same_weights, product-variable}
 use Rattle.word_model.proofs.Degrees.{poly_degree-product}
 use Rattle.word_model.proofs.Associativity.{length-variable, first_part}
+
+-- one term with a number that is not zero
+pub one_term : (cmp : Monomial → Monomial → Ordering) (p c : ℕ) (m : Monomial) → c < p → c ≢ 0 → from_terms cmp p ((c, m) ∷ []) ≡ (c, m) ∷ []
+one_term cmp p zero m below nonzero = absurd (nonzero refl)
+one_term cmp p (suc c) m below nonzero = ap (λ k. cons_nonzero k m []) (mod-eq_of_lt below)
 
 -- the product with nothing is nothing
 pub product-zero : (A : Algebra) (f : Polynomial) → product A f [] ≡ []

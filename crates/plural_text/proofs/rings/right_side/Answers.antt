@@ -1,6 +1,6 @@
 use Rattle.std.proofs.Common.{◌≡◌, ◌≢◌, ℕ, ◌%◌, ◌<◌, length, ap, sym, ◌∙◌, arith}
 use Rattle.std.proofs.lemmas.Result.{IfOk-weaker}
-use Rattle.monomials.specs.Monomials.{plus, degree}
+use Rattle.monomials.specs.Monomials.{degree}
 use Rattle.monomials.specs.Orders.{RowOrder}
 use Rattle.word_model.specs.Words.{Algebra, c_of}
 use Rattle.word_model.proofs.Acceptance.{c_of-below, IsPolynomial-d_of}

@@ -1,14 +1,11 @@
 -- How many terms buckets have.
-use Rattle.std.proofs.Common.{◌≡◌, ℕ, zero, suc, ◌+◌, ◌-◌, ◌*◌, ◌%◌, ◌^◌, ◌<◌, ◌≤◌, List, [], ◌∷◌, ◌++◌, length, map, get_or, set, refl, sym, ap, ◌∙◌, subst, arith}
+use Rattle.std.proofs.Common.{◌≡◌, ℕ, zero, suc, ◌+◌, ◌-◌, ◌%◌, ◌^◌, ◌<◌, ◌≤◌, List, [], ◌∷◌, ◌++◌, length, get_or, set, refl, sym, ap, subst, arith}
 use Rattle.std.proofs.Common.{Ordering, Less, Equal, Greater}
-use Rattle.std.proofs.Math.Nat.{pow-suc}
-use Rattle.std.proofs.lemmas.List.{length-set, length-append, length-map, get_or_default}
+use Rattle.std.proofs.lemmas.List.{length-set, length-append, get_or_default}
 use Rattle.monomials.specs.Monomials.{Monomial}
 use Rattle.monomials.specs.Polynomials.{Polynomial, cons_nonzero, insert_term, poly_add}
 use Rattle.gpoly.specs.Sums.{HasRoom}
-use Rattle.gpoly.specs.Inside.Leads.{without}
 use Rattle.gpoly.specs.Inside.Spilling.{Fits, Takes}
-use Rattle.gpoly.proofs.Gathered.{fewer_or_same}
 
 cons_nonzero-longer : (c : ℕ) (m : Monomial) (f : Polynomial) → length (cons_nonzero c m f) ≤ suc (length f)
 cons_nonzero-longer zero m f = omega arith
@@ -82,55 +79,6 @@ HasRoom-raised cmp p fs k d e inside h fits =
     HasRoom-set (set fs (k + 1) sum) k []
     (HasRoom-set fs (k + 1) sum h (λ l. omega (arith, fits l, poly_add-longer cmp p (get_or fs k d) (get_or fs (k + 1) e), low, high)))
     (λ l. omega arith)
-
--- where leading terms are taken off
-get_or-without : (cmp : Monomial → Monomial → Ordering) (m : Monomial) (fs : List Polynomial) (k : ℕ)
-    → length (get_or (map (without cmp m) fs) k []) ≤ length (get_or fs k [])
-get_or-without cmp m [] k = omega arith
-get_or-without cmp m (f ∷ fs) zero = fewer_or_same cmp m f
-get_or-without cmp m (f ∷ fs) (suc k) = get_or-without cmp m fs k
-
-pub HasRoom-without : (cmp : Monomial → Monomial → Ordering) (m : Monomial) (fs : List Polynomial) → HasRoom fs → HasRoom (map (without cmp m) fs)
-HasRoom-without cmp m fs h = record {
-  few = omega (arith, h.few, length-map fs (without cmp m));
-  short = λ k l. omega (arith, h.short k l, get_or-without cmp m fs k);
-}
-
--- no bucket
-pub HasRoom-none : HasRoom []
-HasRoom-none = record { few = omega arith; short = λ k l. omega arith }
-
--- the room of the next bucket
-more_room : (k : ℕ) → 4 ^ (k + 1) ≤ 4 ^ ((k + 1) + 1)
-more_room k =
-    let next : (k + 1) + 1 ≡ suc (k + 1) = omega arith in
-    let e : 4 ^ ((k + 1) + 1) ≡ 4 ^ (k + 1) * 4 = ap (λ i. 4 ^ i) next ∙ pow-suc 4 (k + 1) in
-    omega (arith, e)
-
--- a bucket was raised: those below it are as before, and it takes what goes into it
-pub Takes-raised : (k n top : ℕ) (fs gs : List Polynomial) → HasRoom fs → Fits k n → k ≤ top → get_or gs top [] ≡ []
-    → ((j : ℕ) → j < top → get_or gs j [] ≡ get_or fs j []) → Takes k n gs top
-Takes-raised k n top fs gs h fits above empty below = record {
-  first = λ e l.
-      let none : length (get_or gs k []) ≡ 0 = ap (λ i. length (get_or gs i [])) (sym e) ∙ ap length empty in
-      omega (arith, none, fits l);
-  later = λ j above e l.
-      let low : length (get_or fs j []) ≤ 4 ^ (j + 1) = h.short j (omega (arith, e, l)) in
-      let same : length (get_or gs j []) ≡ length (get_or fs j []) = ap length (below j (omega (arith, e))) in
-      let none : length (get_or gs top []) ≡ 0 = ap length empty in
-      let room : 4 ^ (top + 1) ≡ 4 ^ ((j + 1) + 1) = ap (λ i. 4 ^ (i + 1)) e in
-      omega (arith, low, same, none, room, more_room j);
-}
-
--- buckets that are the same
-pub Takes-same : (k n top : ℕ) (fs gs : List Polynomial) → ((j : ℕ) → get_or gs j [] ≡ get_or fs j []) → Takes k n fs top → Takes k n gs top
-Takes-same k n top fs gs same h = record {
-  first = λ e l. subst (λ f. length f + n ≤ 4 ^ (k + 1)) (sym (same k)) (h.first e l);
-  later = λ j above e l.
-      let low : length (get_or gs j []) ≡ length (get_or fs j []) = ap length (same j) in
-      let here : length (get_or gs top []) ≡ length (get_or fs top []) = ap length (same top) in
-      omega (arith, low, here, h.later j above e l);
-}
 
 -- the bucket below one that takes what goes into it
 pub Takes-below : (k n top : ℕ) (fs : List Polynomial) → k < top → Takes k n fs top

@@ -73,16 +73,6 @@ set_next w (x ∷ xs) (suc k) d l =
     let e : suc (k + 1) ≡ suc k + 1 = omega arith in
     ap (λ ys. w x ∷ ys) (set_next w xs k d (omega arith)) ∙ ap (λ n. map w (take n (x ∷ xs)) ++ drop n (x ∷ xs)) e
 
--- a polynomial that may lose its leading term
-pub fewer_or_same : (cmp : Monomial → Monomial → Ordering) (m : Monomial) (f : Polynomial) → length (without cmp m f) ≤ length f
-fewer_or_same cmp m [] = omega arith
-fewer_or_same cmp m (t ∷ f) = by (cmp m t.1)
-  where
-    by : (o : Ordering) → length (cond (elim o as (λ o. Bool) [ Less ↦ false | Equal ↦ true | Greater ↦ false ]) f (t ∷ f)) ≤ suc (length f)
-    by Less = omega arith
-    by Equal = omega arith
-    by Greater = omega arith
-
 module _ (p : ℕ) (order : RowOrder) (pos : 0 < p) where
   abbrev cmp : Monomial → Monomial → Ordering
   cmp = order_cmp order.rows
@@ -255,9 +245,18 @@ module _ (p : ℕ) (order : RowOrder) (pos : 0 < p) where
 
   -- ---- fewer terms
 
+  fewer_or_same : (m : Monomial) (f : Polynomial) → length (without cmp m f) ≤ length f
+  fewer_or_same m [] = omega arith
+  fewer_or_same m (t ∷ f) = by (cmp m t.1)
+    where
+      by : (o : Ordering) → length (cond (elim o as (λ o. Bool) [ Less ↦ false | Equal ↦ true | Greater ↦ false ]) f (t ∷ f)) ≤ suc (length f)
+      by Less = omega arith
+      by Equal = omega arith
+      by Greater = omega arith
+
   fewer_or_same_all : (m : Monomial) (fs : List Polynomial) → terms_in (map (without cmp m) fs) ≤ terms_in fs
   fewer_or_same_all m [] = omega arith
-  fewer_or_same_all m (f ∷ fs) = omega (arith, fewer_or_same cmp m f, fewer_or_same_all m fs)
+  fewer_or_same_all m (f ∷ fs) = omega (arith, fewer_or_same m f, fewer_or_same_all m fs)
 
   -- the first term goes
   fewer_here : (m : Monomial) (t : ℕ × Monomial) (f : Polynomial) → t.1 ≡ m → length (without cmp m (t ∷ f)) < length (t ∷ f)
@@ -288,7 +287,7 @@ module _ (p : ℕ) (order : RowOrder) (pos : 0 < p) where
     where
       by : (greater_lead cmp best f ≡ Some m) ⊎ (terms_in (map (without cmp m) fs) < terms_in fs)
           → (best ≡ Some m) ⊎ (terms_in (map (without cmp m) (f ∷ fs)) < terms_in (f ∷ fs))
-      by (inr less) = inr (omega (arith, fewer_or_same cmp m f))
+      by (inr less) = inr (omega (arith, fewer_or_same m f))
       by (inl same) = here (fewer_or_first m best f same)
         where
           here : (best ≡ Some m) ⊎ (length (without cmp m f) < length f) → (best ≡ Some m) ⊎ (terms_in (map (without cmp m) (f ∷ fs)) < terms_in (f ∷ fs))

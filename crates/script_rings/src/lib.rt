@@ -1,7 +1,10 @@
 //! How scripts make rings: by the statement `ring`, and by `nc_algebra` over a ring.
 #![tactic(auto)]
 
+mod blocks;
 mod commuting;
+mod entries;
+mod names;
 mod relations;
 
 pub use commuting::new_ring;

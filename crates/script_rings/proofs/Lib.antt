@@ -1,0 +1,4 @@
+pub mod Ascii
+pub mod Repeats
+pub mod Walking
+pub mod NewRing

@@ -9,16 +9,24 @@ use Rattle.monomials.proofs.Weights.{weigh}
 use Rattle.word_model.specs.Words.{Algebra, Word, IsWord, monomial_of, normal_form, sorted_word}
 use Rattle.word_model.specs.Conditions.{IsGAlgebra}
 use Rattle.word_model.specs.Products.{product, variable_polynomial}
-use Rattle.word_model.proofs.Associativity.{last_part}
+use Rattle.word_model.proofs.Associativity.{last_part, length-variable}
 use Rattle.word_model.proofs.Degrees.{normal_form-degree, poly_degree-le}
 use Rattle.word_model.proofs.Descents.{leftmost_descent-sorted_word}
 use Rattle.word_model.proofs.Letters.{length-counts_from, monomial_of-sorted_word, sorted_word-variable}
 use Rattle.word_model.proofs.NormalForms.{word_weight, weigh-product, product_is_polynomial, normal_form_is_polynomial, same_weights}
 use Rattle.word_model.proofs.Termination.{normal_form-sorted}
+use Rattle.word_model.proofs.TermProducts.{degree-variable}
 use Rattle.closed_forms.proofs.Passing.{power_is_word}
 use Rattle.gproduct.specs.Inside.Swaps.{IsSwap, swap_word}
 use Rattle.gproduct.specs.declared.swap.Swap.{Swap}
 use Rattle.gproduct.proofs.TwoPowers.{sorted_word-powers}
+
+-- a letter, as a polynomial
+pub letter_sorted : (A : Algebra) (v : ℕ) → 1 < A.p → 1 ≤ v → v ≤ A.order.vars → IsPolynomial A.p A.order (variable_polynomial A v)
+letter_sorted A v above_one low high = record { canonical = (omega arith, above_one, tt, tt); vars = (length-variable A.order.vars v low high, tt) }
+
+pub letter_degree : (A : Algebra) (v : ℕ) → 1 ≤ v → poly_degree (variable_polynomial A v) ≤ 1
+letter_degree A v low = omega (arith, degree-variable A.order.vars v low)
 
 module _ (A : Algebra) (accepted : IsGAlgebra A) where
   -- a letter times the normal form of a word is the normal form of the longer word
@@ -32,6 +40,17 @@ module _ (A : Algebra) (accepted : IsGAlgebra A) where
       ∙ same_refl A.p _ _
       ((λ k. 1 * weigh (λ b. word_weight A φ (sorted_word-variable A.order.vars v low k ++ sorted_word b)) (normal_form A w) + 0) ∙ once)
       ∙ sym (last_part A accepted.downward accepted.confluent above_one φ (v ∷ []) w word))
+
+  -- the product of two letters
+  pub letters_value : (i j : ℕ) → 1 ≤ i → i < j → j ≤ A.order.vars → product A (variable_polynomial A j) (variable_polynomial A i) ≡ normal_form A (j ∷ i ∷ [])
+  letters_value i j low ordered high =
+      let n : ℕ = A.order.vars in
+      let m : Monomial = variable n i in
+      let letter : variable_polynomial A i ≡ normal_form A (i ∷ []) =
+      ap (λ m. (1, m) ∷ []) (sym (monomial_of-sorted_word n m (length-variable n i low (omega arith))))
+      ∙ sym (normal_form-sorted A (sorted_word m) (leftmost_descent-sorted_word m))
+      ∙ ap (normal_form A) (sorted_word-variable n i low) in
+      ap (product A (variable_polynomial A j)) letter ∙ letter_times j (i ∷ []) (omega arith) ((omega arith, high), ((low, omega arith), tt))
 
   module _ (swap : Swap) (is : IsSwap A swap) where
     -- the word x_j^k x_i^b

@@ -2,6 +2,8 @@
 //! may share.
 #![tactic(auto)]
 
+mod exchange;
+mod first;
 mod front;
 mod kinds;
 mod multiplying;

@@ -10,6 +10,7 @@ ghost use Rattle.gproduct.specs.Places.{IsPlace, place_value};
 ghost use Rattle.gproduct.specs.Seats.{Knows, Keeps};
 ghost use Rattle.gproduct.specs.Inside.Swaps.{IsSwap, swap_word};
 
+use crate::exchange::Exchange;
 use crate::place::{MOST_EXPONENT, Place};
 use crate::seat::{Learned, TableSeat};
 use crate::swap::Swap;
@@ -54,8 +55,30 @@ pub(crate) fn power_terms(
     Ok((u16::from(place.a), u16::from(place.b)))
 }
 
+impl<'t, 'r> Exchange for TableSeat<'t, 'r> {
+    ghost over = { λ s. s.algebra };
+
+    ghost knows = { Knows };
+
+    fn algebra(&self) -> &Algebra {
+        TableSeat::algebra(self)
+    }
+
+    fn power_terms(
+        &mut self,
+        alloc: Global,
+        i: u8,
+        j: u8,
+        a: u16,
+        b: u16,
+        terms: &mut Vec<Term>,
+    ) -> Result<(u16, u16), AllocError> {
+        power_terms(alloc, self, i, j, a, b, terms)
+    }
+}
+
 // The place with the same variables, and with exponents up to those of a place.
-fn cut(swap: Swap) -> Place
+pub(crate) fn cut(swap: Swap) -> Place
     requires a_some { 1 ≤ swap.a }
     requires b_some { 1 ≤ swap.b }
     ensures i { result.i ≡ swap.i }
@@ -77,7 +100,7 @@ fn cut(swap: Swap) -> Place
 
 // Puts the product's terms into `terms`, where that takes no table: it is one term, or the exponents
 // are above those of a place. Whether it did.
-fn formula_terms(
+pub(crate) fn formula_terms(
     alloc: Global,
     alg: &Algebra,
     kind: &PairKind,
@@ -150,7 +173,7 @@ fn put_known(seat: &TableSeat, place: Place, terms: &mut Vec<Term>) -> Result<()
 }
 
 // Puts the terms of a polynomial in place of what was there.
-fn put(terms: &mut Vec<Term>, value: &GPoly) -> Result<(), AllocError>
+pub(crate) fn put(terms: &mut Vec<Term>, value: &GPoly) -> Result<(), AllocError>
     ensures { OnOk result (pairs_of terms.new.items ≡ value.now) }
 {
     terms.clear();

@@ -10,7 +10,7 @@ ghost use Rattle.gproduct.specs.Seats.{Keeps};
 ghost use Rattle.gproduct.specs.Counting.{Counts};
 ghost use Rattle.gproduct.specs.Inside.Factors.{factor_count, products_in};
 
-use crate::multiplying::multiply_out;
+use crate::multiplying::{crossed_times, multiply_out};
 use crate::parts::{add_part, total};
 use crate::pending::Pending;
 use crate::seat::TableSeat;
@@ -21,20 +21,6 @@ use gpoly::{GPoly, Term};
 use monomials::Expo;
 use std::alloc::{AllocError, Global};
 use std::sync::ledger::Ledger;
-
-// Adds the products of `mono` with each of the terms behind it.
-fn push_before(pending: &mut Pending, mono: &Expo, terms: &[Term]) -> Result<(), AllocError>
-    requires { factor_count pending.old.open.items ≡ length pending.old.factors.items }
-    ensures counted { OnOk result (factor_count pending.new.open.items ≡ length pending.new.factors.items) }
-    ensures products { OnOk result (products_in pending.new.open.items pending.new.factors.items
-        ≡ products_in pending.old.open.items pending.old.factors.items
-        ++ map (λ t. (t.0, t.1 ∷ mono.now ∷ [])) (pairs_of terms.now)) }
-{
-    for term in terms {
-        pending.push(term.coef, &[], &[term.mono, *mono])?;
-    }
-    Ok(())
-}
 
 // Adds the products of each of the terms with `mono` behind it.
 fn push_behind(pending: &mut Pending, terms: &[Term], mono: &Expo) -> Result<(), AllocError>
@@ -48,33 +34,6 @@ fn push_behind(pending: &mut Pending, terms: &[Term], mono: &Expo) -> Result<(),
         pending.push(term.coef, &[], &[*mono, term.mono])?;
     }
     Ok(())
-}
-
-// The product of a power of a variable with `f`, by multiplying out.
-fn crossed_times(
-    alloc: Global,
-    seat: &mut TableSeat,
-    pending: &mut Pending,
-    v: u8,
-    exponent: u16,
-    f: &GPoly,
-) -> Result<GPoly, AllocError>
-    requires counted { factor_count pending.old.open.items ≡ length pending.old.factors.items }
-    requires empty { pending.old.open.items ≡ [] }
-    requires first { 1 ≤ v }
-    requires last { v ≤ seat.old.algebra.order.vars }
-    requires sorted { IsPolynomial seat.old.algebra.p seat.old.algebra.order f.now }
-    requires within { exponent + poly_degree f.now ≤ 4095 }
-    ensures counted { IfOk result (λ r. factor_count pending.new.open.items ≡ length pending.new.factors.items) }
-    ensures empty { IfOk result (λ r. pending.new.open.items ≡ []) }
-    ensures value { IfOk result (λ r. r ≡ product seat.old.algebra ((1, power seat.old.algebra.order.vars v exponent) ∷ []) f.now) }
-    ensures sorted { IfOk result (λ r. IsPolynomial seat.old.algebra.p seat.old.algebra.order r) }
-    ensures algebra { seat.new.algebra ≡ seat.old.algebra }
-    ensures kept { Keeps seat.old seat.new }
-{
-    let n = seat.algebra().n();
-    push_before(pending, &Expo::power(n, v, exponent), f.terms())?;
-    multiply_out(alloc, seat, pending)
 }
 
 // The product of a power of a variable with `f`.

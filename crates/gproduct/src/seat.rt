@@ -8,6 +8,7 @@ ghost use Rattle.gproduct.specs.Seats.{Knows, Keeps, Teaches};
 ghost use Rattle.gproduct.specs.declared.place.Place.{Place};
 ghost use Rattle.gproduct.specs.declared.seat.Learned.TheVariants.{Shared};
 
+use crate::first::first_value;
 use crate::place::{Place, same_place};
 use crate::table::{Filled, Table};
 use algebra::Algebra;
@@ -109,7 +110,7 @@ impl<'t, 'r> TableSeat<'t, 'r> {
         let found = match table.look(place) {
             Some(found) => Some(found),
             None => {
-                let value = table.value(alloc, place)?;
+                let value = first_value(alloc, self, place)?;
                 table.fill(alloc, place, value)?
             }
         };
@@ -118,7 +119,7 @@ impl<'t, 'r> TableSeat<'t, 'r> {
         {
             return Ok(Learned::Shared);
         }
-        Ok(Learned::Own(table.value(alloc, place)?))
+        Ok(Learned::Own(first_value(alloc, self, place)?))
     }
 
     // The kind of the relation of x_i and x_j, where it has one. Takes no memory.

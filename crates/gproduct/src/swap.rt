@@ -9,6 +9,7 @@ ghost use Rattle.closed_forms.specs.Forms.{pairs_of as powers_of};
 ghost use Rattle.closed_forms.specs.Kinds.{HasKind};
 ghost use Rattle.gproduct.specs.Inside.Swaps.{IsSwap, swap_word};
 
+use crate::first::{Plain, raised};
 use algebra::{Algebra, ProductFault};
 use closed_forms::{PairKind, Term2, power_product};
 use gpoly::{GPoly, Term};
@@ -59,31 +60,21 @@ impl Swap {
         GPoly::from_terms(alloc, alg.field(), alg.order(), &terms)
     }
 
-    // The normal form, by multiplying `x_i^b` by one letter `x_j` after another from the left: after
-    // each, like terms are added up.
+    // The normal form, from `x_i^b`, a letter at a time.
     fn by_letters(self, alloc: Global, alg: &Algebra) -> Result<GPoly, AllocError>
         requires { IsSwap alg.now self }
         ensures { IfOk result (λ r. r ≡ normal_form alg.now (swap_word self)) }
     {
-        let n = alg.n();
-        let letter = GPoly::of_term(alloc, 1, Expo::var(n, self.j))?;
-        let mut value = self.power(alloc, alg, self.b, 0)?;
-        for _count in 0..self.a {
-            value = product_within(alloc, alg, &letter, &value)?;
-        }
-        Ok(value)
+        let power = self.power_right(alloc, alg)?;
+        raised(alloc, &mut Plain { algebra: alg }, self, 0, power)
     }
 
-    // The polynomial `x_i^x x_j^y`.
-    fn power(self, alloc: Global, alg: &Algebra, x: u16, y: u16) -> Result<GPoly, AllocError>
-        requires swap { IsSwap alg.now self }
-        requires reach { x + y ≤ 4095 }
-        ensures value { IfOk result (λ r. r ≡
-            (1, monomial_of alg.now.order.vars (replicate x self.i ++ replicate y self.j)) ∷ []) }
-        ensures sorted { IfOk result (λ r. IsPolynomial alg.now.p alg.now.order r) }
+    /// The polynomial `x_i^b`.
+    pub(crate) fn power_right(self, alloc: Global, alg: &Algebra) -> Result<GPoly, AllocError>
+        requires { IsSwap alg.now self }
+        ensures { IfOk result (λ r. r ≡ normal_form alg.now (replicate self.b self.i)) }
     {
-        let mono = self.monomial(alg.n(), x, y);
-        GPoly::from_terms(alloc, alg.field(), alg.order(), &[Term { coef: 1, mono }])
+        GPoly::of_term(alloc, 1, self.monomial(alg.n(), self.b, 0))
     }
 
     // Terms in x_i and x_j, as terms in n variables.
@@ -120,6 +111,24 @@ impl Swap {
         exponents[usize::from(self.j) - 1] = y;
         Expo::of(&exponents[..n])
     }
+}
+
+/// The product `x_j x_i` of two letters, by their relation.
+pub(crate) fn letters_product(
+    alloc: Global,
+    alg: &Algebra,
+    i: u8,
+    j: u8,
+) -> Result<GPoly, AllocError>
+    requires first { 1 ≤ i }
+    requires ordered { i < j }
+    requires last { j ≤ alg.now.order.vars }
+    ensures { IfOk result (λ r. r ≡ normal_form alg.now (j ∷ i ∷ [])) }
+{
+    let n = alg.n();
+    let left = GPoly::of_term(alloc, 1, Expo::var(n, j))?;
+    let right = GPoly::of_term(alloc, 1, Expo::var(n, i))?;
+    product_within(alloc, alg, &left, &right)
 }
 
 // The product of polynomials whose degrees add up to at most 4095, by rewriting words.

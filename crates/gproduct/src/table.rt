@@ -101,15 +101,6 @@ impl<'r> Table<'r> {
         none_meets(&self.noncommuting, left, right)
     }
 
-    // The value of a place, computed anew.
-    pub(crate) fn value(&self, alloc: Global, place: Place) -> Result<GPoly, AllocError>
-        requires { IsPlace self.now place }
-        ensures { IfOk result (λ r. r ≡ place_value self.now place) }
-    {
-        let kind = self.kind(place.i, place.j);
-        place.swap().value(alloc, self.algebra, kind)
-    }
-
     // What the place's cell holds, where that is of this place in this algebra.
     pub(crate) fn look<'t>(&'t self, place: Place) -> Option<&'t Filled<'r>>
         requires { IsPlace self.now place }

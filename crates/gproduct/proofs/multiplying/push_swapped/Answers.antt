@@ -9,15 +9,16 @@ use Rattle.word_model.specs.Words.{Algebra, normal_form}
 use Rattle.word_model.proofs.NormalForms.{normal_form_is_polynomial}
 use Rattle.gproduct.specs.Inside.Factors.{ProductSum, products_in, between, IsExchange}
 use Rattle.gproduct.proofs.SortedWords.{divides-power}
+use Rattle.gproduct.proofs.multiplying.push_swapped.Given as given
 use Rattle.gproduct.proofs.multiplying.push_swapped.Goals as goal
 use Rattle.gproduct.proofs.multiplying.push_swapped.Goals.{In_ok-a}
 
 -- the exponents that were taken are within those of the crossing
-a_within : (c : In_ok-a) → c.in_ok-a.a ≤ get_or c.args.crossing.now.left (c.args.crossing.now.high - 1) 0
-a_within c = omega (arith, c.in_ok-a.ensures.a_within.1, c.get-a.ensures)
+a_within : (g : given.Over) (c : In_ok-a g) → c.in_ok-a.a ≤ get_or c.args.crossing.now.left (c.args.crossing.now.high - 1) 0
+a_within g c = omega (arith, c.in_ok-a.ensures.a_within.1, c.get-a.ensures)
 
-b_within : (c : In_ok-a) → c.in_ok-a.b ≤ get_or c.args.crossing.now.right (c.args.crossing.now.low - 1) 0
-b_within c = omega (arith, c.in_ok-a.ensures.b_within.1, c.get-b.ensures)
+b_within : (g : given.Over) (c : In_ok-a g) → c.in_ok-a.b ≤ get_or c.args.crossing.now.right (c.args.crossing.now.low - 1) 0
+b_within g c = omega (arith, c.in_ok-a.ensures.b_within.1, c.get-b.ensures)
 
 -- a power of a variable divides a monomial, where it is given by equal numbers
 divides_there : (n N v k : ℕ) (m d : Monomial) → n ≡ N → 1 ≤ v → v ≤ N → length m ≡ N → k ≤ get_or m (v - 1) 0 → d ≡ power n v k → IsTrue (divides d m)
@@ -25,22 +26,22 @@ divides_there n N v k m d same low high vars within is =
     ap (λ d. divides d m) (is ∙ ap (λ n. power n v k) same) ∙ divides-power N v k m low high vars within
 
 pub minus-left-requires-clause-divisible : goal.minus-left-requires-clause-divisible
-minus-left-requires-clause-divisible c =
+minus-left-requires-clause-divisible g c =
     let h = c.requires.crossing in
     divides_there _ _ c.args.crossing.now.high c.in_ok-a.a c.args.crossing.now.left c.power.result
     (c.n-n.ensures.value ∙ ap (λ (A : Algebra). A.order.vars) (c.algebra.ensures ∙ c.in_ok-a.ensures.algebra))
-    (omega (arith, h.first, h.falls)) h.last h.left_vars (a_within (goal.at.minus-left-requires-clause-divisible c).In_ok-a) c.power.ensures
+    (omega (arith, h.first, h.falls)) h.last h.left_vars (a_within g (goal.at.minus-left-requires-clause-divisible g c).In_ok-a) c.power.ensures
 
 pub minus-right-requires-clause-divisible : goal.minus-right-requires-clause-divisible
-minus-right-requires-clause-divisible c =
+minus-right-requires-clause-divisible g c =
     let h = c.requires.crossing in
     divides_there _ _ c.args.crossing.now.low c.in_ok-a.b c.args.crossing.now.right c.power-2.result
     (c.n-n.ensures.value ∙ ap (λ (A : Algebra). A.order.vars) (c.algebra.ensures ∙ c.in_ok-a.ensures.algebra))
-    h.first (omega (arith, h.falls, h.last)) h.right_vars (b_within (goal.at.minus-right-requires-clause-divisible c).In_ok-a) c.power-2.ensures
+    h.first (omega (arith, h.falls, h.last)) h.right_vars (b_within g (goal.at.minus-right-requires-clause-divisible g c).In_ok-a) c.power-2.ensures
 
 pub push_each-requires-clause-numbers : goal.push_each-requires-clause-numbers
-push_each-requires-clause-numbers c =
-    let A = c.args.seat.now.algebra in
+push_each-requires-clause-numbers g c =
+    let A = (g.E.Exchange.over c.args.swaps.now) in
     let w = replicate c.in_ok-a.a c.args.crossing.now.high ++ replicate c.in_ok-a.b c.args.crossing.now.low in
     let prime : c.field-field.result ≡ A.p = c.field-field.ensures ∙ ap (λ (A : Algebra). A.p) (c.algebra-2.ensures ∙ c.in_ok-a.ensures.algebra) in
     let terms : pairs_of c.deref.result.now ≡ normal_form A w = ap pairs_of c.deref.ensures.value ∙ c.in_ok-a.ensures.value in
@@ -49,8 +50,8 @@ push_each-requires-clause-numbers c =
     subst₂ N (sym prime) (sym terms) (HasNumbers-canonical (order_cmp A.order.rows) A.p (normal_form A w) (normal_form_is_polynomial A above_one w).canonical)
 
 pub returns-clause-products : goal.returns-clause-products
-returns-clause-products c =
-    let A = c.args.seat.now.algebra in
+returns-clause-products g c =
+    let A = (g.E.Exchange.over c.args.swaps.now) in
     let x = c.args.crossing.now in
     let k = c.args.coef in
     let w = replicate c.in_ok-a.a x.high ++ replicate c.in_ok-a.b x.low in
@@ -68,8 +69,8 @@ returns-clause-products c =
       b = c.in_ok-a.b;
       a_some = c.in_ok-a.ensures.a_within.0;
       b_some = c.in_ok-a.ensures.b_within.0;
-      a_within = a_within (goal.at.returns-clause-products c).In_ok-a;
-      b_within = b_within (goal.at.returns-clause-products c).In_ok-a;
+      a_within = a_within g (goal.at.returns-clause-products g c).In_ok-a;
+      b_within = b_within g (goal.at.returns-clause-products g c).In_ok-a;
       terms = refl;
     } in
     on_ok_weaker c.push_each.result

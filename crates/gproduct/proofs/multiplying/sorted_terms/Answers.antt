@@ -8,37 +8,38 @@ use Rattle.gproduct.specs.declared.front.Crossing.{Crossing}
 use Rattle.gproduct.specs.Inside.Factors.{HaveVars, ProductSum, IsCrossing, IsExchange, products_in, stacked_word, words_of}
 use Rattle.gproduct.proofs.Stacks.{degrees-le}
 use Rattle.gproduct.proofs.MultipliedOut.{IsMultiplying, sum_measure, last_number, last_short, go_sorted, sorted_falls, go_on, swapped_falls, finish}
+use Rattle.gproduct.proofs.multiplying.sorted_terms.Given as given
 use Rattle.gproduct.proofs.multiplying.sorted_terms.Goals as goal
 use Rattle.gproduct.proofs.multiplying.sorted_terms.Goals.{In-Some, In-Sorted, In-Crossed}
 
 -- the products before the last one was taken
-taken : (c : In-Some)
+taken : (g : given.Over) (c : In-Some g)
     → products_in c.loop-sorted.pending.open.items c.loop-sorted.pending.factors.items
     ≡ products_in c.pop.new.self.open.items c.pop.new.self.factors.items ++ (c.in-Some.coef, c.pop.new.taken.items) ∷ []
-taken c = rw c.in-Some.is at c.in_ok-coef.ensures.product
+taken g c = rw c.in-Some.is at c.in_ok-coef.ensures.product
 
-before : (c : In-Some)
-    → IsMultiplying c.args.seat.now.algebra (products_in c.args.pending.now.open.items c.args.pending.now.factors.items)
+before : (g : given.Over) (c : In-Some g)
+    → IsMultiplying (g.E.Exchange.over c.args.swaps.now) (products_in c.args.pending.now.open.items c.args.pending.now.factors.items)
     (products_in c.pop.new.self.open.items c.pop.new.self.factors.items ++ (c.in-Some.coef, c.pop.new.taken.items) ∷ []) (pairs_of c.loop-sorted.sorted.items)
-before c =
-    subst (λ f. IsMultiplying c.args.seat.now.algebra (products_in c.args.pending.now.open.items c.args.pending.now.factors.items) f (pairs_of c.loop-sorted.sorted.items))
-    (taken c) c.loop-sorted.invariant.multiplying
+before g c =
+    subst (λ f. IsMultiplying (g.E.Exchange.over c.args.swaps.now) (products_in c.args.pending.now.open.items c.args.pending.now.factors.items) f (pairs_of c.loop-sorted.sorted.items))
+    (taken g c) c.loop-sorted.invariant.multiplying
 
 -- the number of variables
-vars : (c : In-Some) → c.n-n.result ≡ c.args.seat.now.algebra.order.vars
-vars c = c.n-n.ensures.value ∙ ap (λ (A : Algebra). A.order.vars) c.algebra.ensures
+vars : (g : given.Over) (c : In-Some g) → c.n-n.result ≡ (g.E.Exchange.over c.args.swaps.now).order.vars
+vars g c = c.n-n.ensures.value ∙ ap (λ (A : Algebra). A.order.vars) c.algebra.ensures
 
 pub loop-sorted-smaller-in-Continue-branch-3 : goal.loop-sorted-smaller-in-Continue-branch-3
-loop-sorted-smaller-in-Continue-branch-3 c =
-    let A = c.args.seat.now.algebra in
+loop-sorted-smaller-in-Continue-branch-3 g c =
+    let A = (g.E.Exchange.over c.args.swaps.now) in
     let rest = products_in c.pop.new.self.open.items c.pop.new.self.factors.items in
-    subst (λ f. sum_measure A 4095 (words_of rest) < sum_measure A 4095 (words_of f)) (sym (taken (goal.at.loop-sorted-smaller-in-Continue-branch-3 c).In-Some))
+    subst (λ f. sum_measure A 4095 (words_of rest) < sum_measure A 4095 (words_of f)) (sym (taken g (goal.at.loop-sorted-smaller-in-Continue-branch-3 g c).In-Some))
     (sorted_falls A rest c.in-Some.coef c.pop.new.taken.items)
 
 pub loop-sorted-preserved-in-Continue-branch-3 : goal.loop-sorted-preserved-in-Continue-branch-3
-loop-sorted-preserved-in-Continue-branch-3 c =
-    let s = (goal.at.loop-sorted-preserved-in-Continue-branch-3 c).In-Some in
-    let A = c.args.seat.now.algebra in
+loop-sorted-preserved-in-Continue-branch-3 g c =
+    let s = (goal.at.loop-sorted-preserved-in-Continue-branch-3 g c).In-Some in
+    let A = (g.E.Exchange.over c.args.swaps.now) in
     let start = products_in c.args.pending.now.open.items c.args.pending.now.factors.items in
     let rest = products_in c.pop.new.self.open.items c.pop.new.self.factors.items in
     let sorted : pairs_of c.push.new.self.items ≡ pairs_of c.loop-sorted.sorted.items ++ (c.in-Some.coef, c.in-Sorted.mono) ∷ [] =
@@ -48,26 +49,26 @@ loop-sorted-preserved-in-Continue-branch-3 c =
       counted = c.in_ok-coef.ensures.counted;
       multiplying =
           subst (IsMultiplying A start rest) (sym sorted)
-          (go_sorted A start rest c.in-Some.coef c.pop.new.taken.items c.in-Sorted.mono (pairs_of c.loop-sorted.sorted.items) (before s)
-          (c.in-Sorted.ensures.0 ∙ vars s) c.in-Sorted.ensures.1);
+          (go_sorted A start rest c.in-Some.coef c.pop.new.taken.items c.in-Sorted.mono (pairs_of c.loop-sorted.sorted.items) (before g s)
+          (c.in-Sorted.ensures.0 ∙ vars g s) c.in-Sorted.ensures.1);
       algebra = c.loop-sorted.invariant.algebra;
       kept = c.loop-sorted.invariant.kept;
     }
 
 pub push_swapped-requires-clause-in_range : goal.push_swapped-requires-clause-in_range
-push_swapped-requires-clause-in_range c =
-    let A = c.args.seat.now.algebra in
+push_swapped-requires-clause-in_range g c =
+    let A = (g.E.Exchange.over c.args.swaps.now) in
     subst (λ (B : Algebra). c.in-Some.coef < B.p) (sym c.loop-sorted.invariant.algebra)
     (last_number A (products_in c.pop.new.self.open.items c.pop.new.self.factors.items) c.in-Some.coef c.pop.new.taken.items
-    (before (goal.at.push_swapped-requires-clause-in_range c).In-Some).ready)
+    (before g (goal.at.push_swapped-requires-clause-in_range g c).In-Some).ready)
 
 pub push_swapped-requires-clause-reach : goal.push_swapped-requires-clause-reach
-push_swapped-requires-clause-reach c =
-    let A = c.args.seat.now.algebra in
+push_swapped-requires-clause-reach g c =
+    let A = (g.E.Exchange.over c.args.swaps.now) in
     degrees-le 4095 c.in-Crossed.crossing.left c.in-Crossed.crossing.right (stacked_word c.join_front.new.factors.items) (stacked_word c.pop.new.taken.items)
     c.in-Crossed.ensures.2
     (last_short A (products_in c.pop.new.self.open.items c.pop.new.self.factors.items) c.in-Some.coef c.pop.new.taken.items
-    (before (goal.at.push_swapped-requires-clause-reach c).In-Some).ready)
+    (before g (goal.at.push_swapped-requires-clause-reach g c).In-Some).ready)
 
 -- what was added in place of the last product, and how it was found
 module _ (A : Algebra) (accepted : IsGAlgebra A) (B : Algebra) (same : B ≡ A) (n : ℕ) (vars : n ≡ A.order.vars)
@@ -95,44 +96,44 @@ module _ (A : Algebra) (accepted : IsGAlgebra A) (B : Algebra) (same : B ≡ A) 
       (swapped_falls A accepted start rest k fs done h x crossing tail tail_vars crossed.2 added.0 swap)
 
 pub loop-sorted-smaller : goal.loop-sorted-smaller
-loop-sorted-smaller c =
-    let s = (goal.at.loop-sorted-smaller c).In-Some in
-    let A = c.args.seat.now.algebra in
+loop-sorted-smaller g c =
+    let s = (goal.at.loop-sorted-smaller g c).In-Some in
+    let A = (g.E.Exchange.over c.args.swaps.now) in
     let accepted : IsGAlgebra A = subst IsGAlgebra c.algebra.ensures c.n-n.ensures.accepted in
-    falls A accepted c.loop-sorted.seat.algebra c.loop-sorted.invariant.algebra c.n-n.result (vars s)
+    falls A accepted (g.E.Exchange.over c.loop-sorted.swaps) c.loop-sorted.invariant.algebra c.n-n.result (vars g s)
     (products_in c.args.pending.now.open.items c.args.pending.now.factors.items)
     (products_in c.pop.new.self.open.items c.pop.new.self.factors.items)
     (products_in c.push_swapped.new.pending.open.items c.push_swapped.new.pending.factors.items)
     c.in-Some.coef c.pop.new.taken.items c.join_front.new.factors.items c.deref.result.now c.in-Crossed.crossing c.deref.ensures.value
     c.in_ok-push_swapped-in-Crossed.ensures.products c.in-Crossed.ensures
-    (pairs_of c.loop-sorted.sorted.items) (before s)
-    (products_in c.loop-sorted.pending.open.items c.loop-sorted.pending.factors.items) (taken s)
+    (pairs_of c.loop-sorted.sorted.items) (before g s)
+    (products_in c.loop-sorted.pending.open.items c.loop-sorted.pending.factors.items) (taken g s)
 
 pub loop-sorted-preserved : goal.loop-sorted-preserved
-loop-sorted-preserved c =
-    let s = (goal.at.loop-sorted-preserved c).In-Some in
-    let A = c.args.seat.now.algebra in
+loop-sorted-preserved g c =
+    let s = (goal.at.loop-sorted-preserved g c).In-Some in
+    let A = (g.E.Exchange.over c.args.swaps.now) in
     let accepted : IsGAlgebra A = subst IsGAlgebra c.algebra.ensures c.n-n.ensures.accepted in
     record {
       counted = c.in_ok-push_swapped-in-Crossed.ensures.counted;
       multiplying =
-          swapped A accepted c.loop-sorted.seat.algebra c.loop-sorted.invariant.algebra c.n-n.result (vars s)
+          swapped A accepted (g.E.Exchange.over c.loop-sorted.swaps) c.loop-sorted.invariant.algebra c.n-n.result (vars g s)
           (products_in c.args.pending.now.open.items c.args.pending.now.factors.items)
           (products_in c.pop.new.self.open.items c.pop.new.self.factors.items)
           (products_in c.push_swapped.new.pending.open.items c.push_swapped.new.pending.factors.items)
           c.in-Some.coef c.pop.new.taken.items c.join_front.new.factors.items c.deref.result.now c.in-Crossed.crossing c.deref.ensures.value
           c.in_ok-push_swapped-in-Crossed.ensures.products c.in-Crossed.ensures
-          (pairs_of c.loop-sorted.sorted.items) (before s);
+          (pairs_of c.loop-sorted.sorted.items) (before g s);
       algebra = c.push_swapped.ensures.algebra ∙ c.loop-sorted.invariant.algebra;
       kept = λ place knows. c.push_swapped.ensures.kept place (c.loop-sorted.invariant.kept place knows);
     }
 
 pub returns-clause-empty : goal.returns-clause-empty
-returns-clause-empty c = (rw c.in_default.is at c.in_ok-coef.ensures.product).1
+returns-clause-empty g c = (rw c.in_default.is at c.in_ok-coef.ensures.product).1
 
 pub returns-clause-value : goal.returns-clause-value
-returns-clause-value c =
-    let A = c.args.seat.now.algebra in
+returns-clause-value g c =
+    let A = (g.E.Exchange.over c.args.swaps.now) in
     let start = products_in c.args.pending.now.open.items c.args.pending.now.factors.items in
     let none : c.loop-sorted.pending.open.items ≡ [] = (rw c.in_default.is at c.in_ok-coef.ensures.product).0 in
     let accepted : IsGAlgebra A = subst IsGAlgebra c.algebra.ensures c.n-n.ensures.accepted in

@@ -1,7 +1,7 @@
 use Rattle.std.proofs.Common.{◌≡◌, ◌++◌, ◌∷◌, [], length, map, drop}
 use Rattle.gpoly.specs.Terms.{pairs_of}
 use Rattle.gproduct.specs.Inside.Factors.{factor_count, products_in}
-use Rattle.gproduct.proofs.products.push_before.Given as goal
+use Rattle.gproduct.proofs.multiplying.push_before.Given as goal
 
 abbrev pub invariant-loop-term : goal.invariant-loop-term
 invariant-loop-term l = record {

@@ -1,9 +1,9 @@
 -- The normal form of a word, a letter at a time from the left.
-use Rattle.std.proofs.Common.{◌≡◌, ℕ, zero, suc, ◌+◌, ◌*◌, ◌<◌, ◌≤◌, [], ◌∷◌, ◌++◌, length, replicate, refl, sym, ap, ◌∙◌, subst, arith, length-append, append-nil}
+use Rattle.std.proofs.Common.{◌≡◌, ℕ, suc, ◌+◌, ◌*◌, ◌<◌, ◌≤◌, [], ◌∷◌, ◌++◌, length, replicate, sym, ap, ◌∙◌, arith, length-append, append-nil}
 use Rattle.std.proofs.lemmas.List.{length-replicate}
-use Rattle.monomials.specs.Monomials.{Monomial, degree, variable}
+use Rattle.monomials.specs.Monomials.{Monomial, variable}
 use Rattle.monomials.specs.Polynomials.{Polynomial, IsPolynomial, poly_degree}
-use Rattle.monomials.proofs.Modulo.{Same, same_refl}
+use Rattle.monomials.proofs.Modulo.{same_refl}
 use Rattle.monomials.proofs.Keys.{Each-append}
 use Rattle.monomials.proofs.Weights.{weigh}
 use Rattle.word_model.specs.Words.{Algebra, Word, IsWord, monomial_of, normal_form, sorted_word}
@@ -17,7 +17,7 @@ use Rattle.word_model.proofs.NormalForms.{word_weight, weigh-product, product_is
 use Rattle.word_model.proofs.Termination.{normal_form-sorted}
 use Rattle.word_model.proofs.TermProducts.{degree-variable}
 use Rattle.closed_forms.proofs.Passing.{power_is_word}
-use Rattle.gproduct.specs.Inside.Swaps.{IsSwap, swap_word}
+use Rattle.gproduct.specs.Inside.Swaps.{IsSwap}
 use Rattle.gproduct.specs.declared.swap.Swap.{Swap}
 use Rattle.gproduct.proofs.TwoPowers.{sorted_word-powers}
 

@@ -1,9 +1,9 @@
 -- Products with a term, by those of its terms that are passed and by the others.
-use Rattle.std.proofs.Common.{◌≡◌, ℕ, ◌+◌, ◌-◌, ◌*◌, ◌%◌, ◌<◌, ◌≤◌, List, [], ◌∷◌, ◌++◌, length, refl, sym, ap, ◌∙◌, subst, subst₂, arith, mod-lt}
+use Rattle.std.proofs.Common.{◌≡◌, ℕ, ◌+◌, ◌-◌, ◌*◌, ◌%◌, ◌<◌, ◌≤◌, [], ◌∷◌, ◌++◌, length, refl, sym, ap, ◌∙◌, subst₂, arith, mod-lt}
 use Rattle.monomials.specs.Monomials.{Monomial, degree, plus}
 use Rattle.monomials.specs.Orders.{RowOrder, order_cmp}
-use Rattle.monomials.specs.Polynomials.{Polynomial, Each, HasNumbers, HasVars, IsPolynomial, from_terms, poly_add, poly_degree}
-use Rattle.monomials.proofs.Modulo.{Same, same_refl, same_add, same_mul, same_mul_right, same_rest}
+use Rattle.monomials.specs.Polynomials.{Polynomial, from_terms, poly_add}
+use Rattle.monomials.proofs.Modulo.{same_refl, same_add, same_mul, same_mul_right, same_rest}
 use Rattle.monomials.proofs.Weights.{weigh, weigh-append, weigh-from_terms, weigh-poly_add}
 use Rattle.monomials.proofs.Operations.{IsPolynomial-from_terms, IsPolynomial-poly_add}
 use Rattle.monomials.proofs.OrderLaws.{order_cmp_tied}
@@ -15,8 +15,7 @@ use Rattle.word_model.specs.Products.{product}
 use Rattle.word_model.proofs.CommonMultiples.{length-plus}
 use Rattle.word_model.proofs.Degrees.{poly_degree-le}
 use Rattle.word_model.proofs.NormalForms.{word_weight, row_weight, weigh-product, product_is_polynomial, same_weights}
-use Rattle.gproduct.specs.Inside.Factors.{AreTerms}
-use Rattle.gproduct.specs.Inside.Passing.{Passes, AddUp, IsParted, IsSplit}
+use Rattle.gproduct.specs.Inside.Passing.{Passes, IsParted, IsSplit}
 use Rattle.gproduct.proofs.Passing.{passed_weight}
 
 module _ (A : Algebra) (downward : RewritesDown A) (k : ℕ) (m : Monomial) where

@@ -1,19 +1,19 @@
 -- A word in which no letter crosses one that it does not commute with is its monomial.
-use Rattle.std.proofs.Common.{◌≡◌, ℕ, zero, suc, ◌+◌, ◌-◌, ◌*◌, ◌<◌, ◌≤◌, ◌⊎◌, inl, inr, List, [], ◌∷◌, ◌++◌, length, replicate, map, get_or, slice_index, None, Some, refl, sym, ap, ◌∙◌, subst, arith, le_refl, length-append}
+use Rattle.std.proofs.Common.{◌≡◌, ℕ, zero, suc, ◌+◌, ◌-◌, ◌*◌, ◌<◌, ◌≤◌, ◌⊎◌, inl, inr, List, [], ◌∷◌, ◌++◌, length, replicate, map, get_or, None, Some, refl, ap, ◌∙◌, subst, arith, le_refl}
 use Rattle.std.specs.List.{Contains}
-use Rattle.monomials.specs.Monomials.{Monomial, degree, plus}
+use Rattle.monomials.specs.Monomials.{Monomial, plus}
 use Rattle.monomials.specs.Polynomials.{Each}
 use Rattle.monomials.proofs.Modulo.{Same, same_refl}
 use Rattle.monomials.proofs.Weights.{weigh}
-use Rattle.monomials.proofs.Keys.{Each-append, Each-first, Each-second, Each-weaker}
-use Rattle.word_model.specs.Words.{Algebra, Word, IsWord, monomial_of, counts_from, word_from, sorted_word, leftmost_descent, rewritten, c_of, d_of, RewritesDown}
+use Rattle.monomials.proofs.Keys.{Each-append, Each-weaker}
+use Rattle.word_model.specs.Words.{Algebra, Word, IsWord, monomial_of, word_from, sorted_word, leftmost_descent, c_of, d_of, RewritesDown}
 use Rattle.word_model.proofs.Letters.{counts_from-append, counts_from-swap, monomial_of-sorted_word, IsWord-sorted_word}
 use Rattle.word_model.proofs.Descents.{descent, rising, leftmost_descent-sorted_word}
-use Rattle.word_model.proofs.Induction.{pair_bounds, word_induction}
+use Rattle.word_model.proofs.Induction.{word_induction}
 use Rattle.word_model.proofs.Termination.{normal_form-sorted}
 use Rattle.word_model.proofs.NormalForms.{word_weight, word_weight-descent}
 use Rattle.gproduct.specs.declared.pairs.Pair.{Pair}
-use Rattle.gproduct.specs.Inside.Passing.{IsCommuting, Passes, IsPair, HasNoncommuting, IsFree}
+use Rattle.gproduct.specs.Inside.Passing.{IsCommuting, Passes, HasNoncommuting, IsFree}
 
 module _ (A : Algebra) where
   -- x_j commutes with x_i, or stands in order before it

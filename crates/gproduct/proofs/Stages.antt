@@ -1,5 +1,5 @@
 -- Products with a term, variable by variable, and their words.
-use Rattle.std.proofs.Common.{◌≡◌, ℕ, suc, ◌+◌, ◌-◌, ◌*◌, ◌<◌, ◌≤◌, [], ◌∷◌, ◌++◌, map, length, take, drop, get_or, replicate, refl, sym, ap, ◌∙◌, subst, arith, append_assoc, append-nil, length-append}
+use Rattle.std.proofs.Common.{◌≡◌, ℕ, zero, suc, ◌+◌, ◌-◌, ◌*◌, ◌<◌, ◌≤◌, [], ◌∷◌, ◌++◌, map, length, take, drop, get_or, replicate, refl, sym, ap, ◌∙◌, subst, arith, append_assoc, append-nil, length-append}
 use Rattle.std.proofs.lemmas.List.{take_more, take_all, take-append-drop, length-replicate, length-take-le}
 use Rattle.monomials.specs.Monomials.{Monomial, degree, power}
 use Rattle.monomials.specs.Polynomials.{Polynomial, HasNumbers, HasVars, IsPolynomial, poly_scale, poly_degree}
@@ -199,3 +199,62 @@ no_power A above_one v f low h =
     same_refl A.p _ _ (sym (ap (λ w. word_weight A φ (w ++ sorted_word t.1)) (sorted_word-power A.order.vars v 0 low) ∙ word_weight-sorted A φ t.1 avars))) f h.vars)
     ∙ same_refl A.p _ _ once
     ∙ sym (weigh-product A φ ((1, P) ∷ []) f))
+
+-- ---- a power in parts
+
+joined_powers : (v e k : ℕ) → replicate e v ++ replicate k v ≡ replicate (k + e) v
+joined_powers v zero k = let same : k ≡ k + 0 = omega arith in ap (λ n. replicate n v) same
+joined_powers v (suc e) k =
+    let next : suc (k + e) ≡ k + suc e = omega arith in
+    ap (λ w. v ∷ w) (joined_powers v e k) ∙ ap (λ n. replicate n v) next
+
+module _ (A : Algebra) (accepted : IsGAlgebra A) (v : ℕ) (low : 1 ≤ v) (high : v ≤ A.order.vars) where
+  -- the word of the power x_v^e
+  abbrev word_of : ℕ → Word
+  word_of e = sorted_word (power A.order.vars v e)
+
+  -- the product with a power adds its exponent to the degree, at most
+  pub power_degree : (e : ℕ) (f : Polynomial) → HasVars A.order.vars f → poly_degree (product A ((1, power A.order.vars v e) ∷ []) f) ≤ e + poly_degree f
+  power_degree e f vars =
+      let P : Polynomial = (1, power A.order.vars v e) ∷ [] in
+      let size : degree (power A.order.vars v e) ≡ e =
+      sym (length-word_from 1 (power A.order.vars v e)) ∙ ap length (sorted_word-power A.order.vars v e low) ∙ length-replicate {A = ℕ} e v in
+      omega (arith, size, poly_degree-product A accepted.downward P f (length-power A.order.vars v e low high, tt) vars)
+
+  module _ (e k : ℕ) where
+    around : (b : Monomial) → word_of e ++ (word_of k ++ sorted_word b) ≡ word_of (k + e) ++ sorted_word b
+    around b =
+        let n : ℕ = A.order.vars in
+        sym (append_assoc (word_of e) (word_of k) (sorted_word b))
+        ∙ (λ i. (sorted_word-power n v e low i ++ sorted_word-power n v k low i) ++ sorted_word b)
+        ∙ ap (λ w. w ++ sorted_word b) (joined_powers v e k ∙ sym (sorted_word-power n v (k + e) low))
+
+    around_is_word : (b : Monomial) → length b ≡ A.order.vars → IsWord A.order.vars (word_of e ++ (word_of k ++ sorted_word b))
+    around_is_word b bvars =
+        let n : ℕ = A.order.vars in
+        subst (IsWord n) (sym (around b))
+        (Each-append _ (word_of (k + e)) (sorted_word b) (IsWord-sorted_word n (power n v (k + e)) (length-power n v (k + e) low high)) (IsWord-sorted_word n b bvars))
+
+    -- a power after a power
+    pub power_more : (f : Polynomial) → HasVars A.order.vars f
+        → product A ((1, power A.order.vars v e) ∷ []) (product A ((1, power A.order.vars v k) ∷ []) f) ≡ product A ((1, power A.order.vars v (k + e)) ∷ []) f
+    power_more f vars =
+        let n : ℕ = A.order.vars in
+        let above_one : 1 < A.p = accepted.field.more in
+        let E : Polynomial = (1, power n v e) ∷ [] in
+        let K : Polynomial = (1, power n v k) ∷ [] in
+        let both : Polynomial = (1, power n v (k + e)) ∷ [] in
+        let once : (x : ℕ) → 1 * x + 0 ≡ x = λ x. omega arith in
+        same_weights A _ _ (product_is_polynomial A above_one E (product A K f)) (product_is_polynomial A above_one both f)
+        (λ φ.
+        let χ : Monomial → ℕ = λ a. word_weight A φ (word_of e ++ sorted_word a) in
+        weigh-product A φ E (product A K f)
+        ∙ same_refl A.p _ _ (once (row_weight A φ (product A K f) (power n v e)))
+        ∙ weigh-product A χ K f
+        ∙ same_refl A.p _ _ (once (row_weight A χ f (power n v k)))
+        ∙ weigh_alike_on A.p (λ b. word_weight A χ (word_of k ++ sorted_word b)) (λ b. word_weight A φ (word_of (k + e) ++ sorted_word b)) f
+        (Each-weaker _ _ (λ t bvars.
+        sym (last_part A accepted.downward accepted.confluent above_one φ (word_of e) (word_of k ++ sorted_word t.1) (around_is_word t.1 bvars))
+        ∙ same_refl A.p _ _ (ap (word_weight A φ) (around t.1))) f vars)
+        ∙ same_refl A.p _ _ (sym (once (row_weight A φ f (power n v (k + e)))))
+        ∙ sym (weigh-product A φ both f))

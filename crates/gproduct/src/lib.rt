@@ -11,6 +11,7 @@ mod pairs;
 mod parts;
 mod pending;
 mod place;
+mod portion;
 mod powers;
 mod products;
 mod seat;

@@ -154,10 +154,40 @@ fn place_terms(
     if let Some(value) = seat.known(place) {
         return put(terms, value);
     }
+    if seat.kind(place.i, place.j).is_none() {
+        learn_row(alloc, seat, place)?;
+        learn_column(alloc, seat, place)?;
+    }
     match seat.learn(alloc, place)? {
         Learned::Shared => put_known(seat, place, terms),
         Learned::Own(value) => put(terms, &value),
     }
+}
+
+// Lets the seat learn the products of one letter with the powers on the right, up to that of the place:
+// all later values are made from these.
+fn learn_row(alloc: Global, seat: &mut TableSeat, place: Place) -> Result<(), AllocError>
+    requires { IsPlace seat.old.algebra place }
+    ensures algebra { seat.new.algebra ≡ seat.old.algebra }
+    ensures kept { Keeps seat.old seat.new }
+{
+    for b in 1..place.b + 1 {
+        seat.learn(alloc, Place { a: 1, b, ..place })?;
+    }
+    Ok(())
+}
+
+// Lets the seat learn the products of lower powers on the left with the power on the right: each value is
+// made from the one before.
+fn learn_column(alloc: Global, seat: &mut TableSeat, place: Place) -> Result<(), AllocError>
+    requires { IsPlace seat.old.algebra place }
+    ensures algebra { seat.new.algebra ≡ seat.old.algebra }
+    ensures kept { Keeps seat.old seat.new }
+{
+    for a in 1..place.a {
+        seat.learn(alloc, Place { a, ..place })?;
+    }
+    Ok(())
 }
 
 // Puts the value of a place that the seat knows into `terms`.

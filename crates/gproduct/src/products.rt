@@ -13,6 +13,7 @@ ghost use Rattle.gproduct.specs.Inside.Factors.{factor_count, products_in};
 use crate::multiplying::{crossed_times, multiply_out};
 use crate::parts::{add_part, total};
 use crate::pending::Pending;
+use crate::portion::portion;
 use crate::seat::TableSeat;
 use crate::split::{SplitProduct, split};
 use crate::steps::Steps;
@@ -36,8 +37,9 @@ fn push_behind(pending: &mut Pending, terms: &[Term], mono: &Expo) -> Result<(),
     Ok(())
 }
 
-// The product of a power of a variable with `f`.
-fn power_times(
+// The product of a power of a variable with `f`, at once: with the terms that it passes, and with the
+// others by multiplying out.
+fn part_times(
     alloc: Global,
     seat: &mut TableSeat,
     pending: &mut Pending,
@@ -60,9 +62,6 @@ fn power_times(
 {
     let algebra = seat.algebra();
     let n = algebra.n();
-    if exponent == 0 {
-        return Ok(f);
-    }
     let power = Expo::power(n, v, exponent);
     let SplitProduct { passed, rest } = split(alloc, seat, 1, &power, &f)?;
     if rest.is_zero() {
@@ -70,6 +69,39 @@ fn power_times(
     }
     let crossed = crossed_times(alloc, seat, pending, v, exponent, &rest)?;
     passed.add(alloc, algebra.field(), algebra.order(), &crossed)
+}
+
+// The product of a power of a variable with `f`, in parts: like terms are added up after each.
+fn power_times(
+    alloc: Global,
+    seat: &mut TableSeat,
+    pending: &mut Pending,
+    v: u8,
+    exponent: u16,
+    f: GPoly,
+) -> Result<GPoly, AllocError>
+    requires counted { factor_count pending.old.open.items ≡ length pending.old.factors.items }
+    requires empty { pending.old.open.items ≡ [] }
+    requires first { 1 ≤ v }
+    requires last { v ≤ seat.old.algebra.order.vars }
+    requires sorted { IsPolynomial seat.old.algebra.p seat.old.algebra.order f }
+    requires within { exponent + poly_degree f ≤ 4095 }
+    ensures counted { IfOk result (λ r. factor_count pending.new.open.items ≡ length pending.new.factors.items) }
+    ensures empty { IfOk result (λ r. pending.new.open.items ≡ []) }
+    ensures value { IfOk result (λ r. r ≡ product seat.old.algebra ((1, power seat.old.algebra.order.vars v exponent) ∷ []) f) }
+    ensures sorted { IfOk result (λ r. IsPolynomial seat.old.algebra.p seat.old.algebra.order r) }
+    ensures algebra { seat.new.algebra ≡ seat.old.algebra }
+    ensures kept { Keeps seat.old seat.new }
+{
+    let _n = seat.algebra().n();
+    let mut product = f;
+    let mut left = exponent;
+    while left > 0 {
+        let part = portion(seat, v, left, product.terms());
+        product = part_times(alloc, seat, pending, v, part, product)?;
+        left -= part;
+    }
+    Ok(product)
 }
 
 // The product of a term with `f`: by the powers of its variables, from the last to the first.

@@ -100,6 +100,7 @@ impl<'t, 'r> TableSeat<'t, 'r> {
         requires place { IsPlace self.old.algebra place }
         ensures algebra { self.new.algebra ≡ self.old.algebra }
         ensures kept { Keeps self.old self.new }
+        ensures slots { length self.new.seen ≡ length self.old.seen }
         ensures learned { IfOk result (Teaches self.new place) }
         ensures already { Knows self.old place → (result ≡ Ok Shared) × (self.new ≡ self.old) }
     {
@@ -148,6 +149,7 @@ impl<'t, 'r> TableSeat<'t, 'r> {
         requires algebra { found.now.algebra.now ≡ self.old.algebra }
         ensures algebra { self.new.algebra ≡ self.old.algebra }
         ensures kept { Keeps self.old self.new }
+        ensures slots { length self.new.seen ≡ length self.old.seen }
         ensures noted { IsTrue result → Knows self.new found.now.place }
     {
         let index = found.place.cell(self.algebra().n());

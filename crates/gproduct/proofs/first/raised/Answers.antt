@@ -1,6 +1,6 @@
-use Rattle.std.proofs.Common.{◌≡◌, ℕ, ◌+◌, ◌<◌, ◌≤◌, ◌++◌, replicate, sym, ap, ◌∙◌, subst, arith}
-use Rattle.monomials.specs.Polynomials.{IsPolynomial, poly_degree}
-use Rattle.word_model.specs.Words.{Algebra, normal_form}
+use Rattle.std.proofs.Common.{◌<◌, sym, ap, ◌∙◌, subst}
+use Rattle.monomials.specs.Polynomials.{IsPolynomial}
+use Rattle.word_model.specs.Words.{Algebra}
 use Rattle.word_model.specs.Conditions.{IsGAlgebra}
 use Rattle.word_model.specs.Products.{product, variable_polynomial}
 use Rattle.word_model.proofs.NormalForms.{normal_form_is_polynomial}

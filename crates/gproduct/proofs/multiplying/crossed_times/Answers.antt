@@ -1,11 +1,10 @@
-use Rattle.std.proofs.Common.{◌≡◌, ℕ, ◌<◌, ◌∙◌, ◌++◌, ◌∷◌, [], length, sym, ap, subst, arith}
+use Rattle.std.proofs.Common.{◌≡◌, ℕ, ◌<◌, ◌∙◌, ◌++◌, length, sym, ap, subst, arith}
 use Rattle.std.proofs.Math.ListN.{length-replicate}
 use Rattle.std.proofs.lemmas.Result.{IfOk-weaker}
 use Rattle.monomials.specs.Monomials.{degree, power}
 use Rattle.monomials.specs.Orders.{order_cmp}
 use Rattle.monomials.proofs.Operations.{HasNumbers-canonical}
 use Rattle.word_model.specs.Words.{Algebra, word_value}
-use Rattle.word_model.specs.Products.{product}
 use Rattle.word_model.proofs.Letters.{length-word_from}
 use Rattle.gproduct.specs.Inside.Factors.{products_in, words_of, IsReady}
 use Rattle.gproduct.proofs.SortedWords.{length-power, sorted_word-power}

@@ -1,4 +1,4 @@
-use Rattle.std.proofs.Common.{◌≡◌, ◌+◌, ◌≤◌, ℕ, sym, ap, ◌∙◌, subst, subst₂, arith}
+use Rattle.std.proofs.Common.{◌≡◌, ◌≤◌, sym, ap, ◌∙◌, subst, arith}
 use Rattle.monomials.specs.Monomials.{degree}
 use Rattle.monomials.specs.Orders.{order_cmp}
 use Rattle.monomials.specs.Polynomials.{Each, HasNumbers, from_terms}
@@ -7,7 +7,7 @@ use Rattle.monomials.proofs.Operations.{HasNumbers-canonical}
 use Rattle.gpoly.specs.Terms.{pairs_of}
 use Rattle.word_model.specs.Words.{Algebra}
 use Rattle.word_model.specs.Conditions.{IsGAlgebra}
-use Rattle.gproduct.specs.Inside.Passing.{IsParted, IsSplit}
+use Rattle.gproduct.specs.Inside.Passing.{IsParted}
 use Rattle.gproduct.proofs.Parted.{split_sums_by}
 use Rattle.gproduct.proofs.split.split.Goals as goal
 

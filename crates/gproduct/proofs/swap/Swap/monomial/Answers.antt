@@ -1,4 +1,4 @@
-use Rattle.std.proofs.Common.{◌-◌, ap, ◌∙◌, arith}
+use Rattle.std.proofs.Common.{ap, ◌∙◌, arith}
 use Rattle.monomials.specs.Monomials.{degree}
 use Rattle.gproduct.proofs.TwoPowers.{exponents_are, degree-powers}
 use Rattle.gproduct.proofs.swap.Swap.monomial.Goals as goal

@@ -1,3 +1,5 @@
+pub mod Assigned
+pub mod Lists
 pub mod Maps
 pub mod Naming
 pub mod Options

@@ -1,5 +1,5 @@
 -- A refusal is handed on.
-use Rattle.std.proofs.Common.{◌≡◌, Ok, Err, ap}
+use Rattle.std.proofs.Common.{◌≡◌, Err, ap}
 use Rattle.script_model.specs.declared.values.Refusal.{Refusal}
 use Rattle.script_model.specs.Refusals.{Outcome, ◌>>=◌}
 use Rattle.script_values.specs.declared.stop.Stop.{Stop}

@@ -1,10 +1,9 @@
 -- What the program keeps of rings and names.
-use Rattle.std.specs.Prelude.{ℕ, Bool, List, map, string_bytes, All}
+use Rattle.std.specs.Prelude.{ℕ, List, map, string_bytes, All}
 use Rattle.std.specs.Global.{Vec}
 use Rattle.std.specs.Map.{values_of}
 use Rattle.plural_text.specs.Names.{AreNames}
-use Rattle.script_model.specs.Environment.{Text, Names, Ring, Environment}
-use Rattle.script_model.specs.declared.values.Value.{Value}
+use Rattle.script_model.specs.Environment.{Names, Ring}
 use Rattle.script_values.specs.Values.{IsValueOf}
 use Rattle.script_values.specs.declared.ring.Ring.TheInside as ring
 

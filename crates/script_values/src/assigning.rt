@@ -1,6 +1,6 @@
 //! Values that statements give a name.
 
-ghost use Rattle.std.specs.Prelude.{◌≡◌, ◌≤◌, ◌&&◌, IfOk, IsTrue, length};
+ghost use Rattle.std.specs.Prelude.{◌≡◌, ◌≤◌, ◌++◌, ◌&&◌, [], length, reverse, take, drop, replicate, slice_index_or, slice_set, IfOk, OnOk, IsTrue};
 ghost use Rattle.monomials.specs.Polynomials.{Each, IsPolynomial};
 ghost use Rattle.word_model.specs.Words.{Algebra};
 ghost use Rattle.script_model.specs.Operations.{columns_of, is_number_of, poly_of as poly_of_value};
@@ -11,7 +11,7 @@ ghost use Rattle.script_values.specs.Values.{ArePolynomials, IsValueOf};
 use crate::Stop;
 use gpoly::GPoly;
 use run_records::Row;
-use script_model::values::{Refusal, Value};
+use script_model::values::{Refusal, Value, copy_rows};
 use sqlite_items::Items;
 use std::alloc::{AllocError, Global};
 
@@ -64,7 +64,24 @@ pub fn all_polys(alloc: Global, values: Items<Value>) -> Result<Items<GPoly>, St
     ensures value { Gives result (spec.all_polys values) }
     ensures of_ring { (A : Algebra) → Each (IsValueOf A) values → IfOk result (ArePolynomials A) }
 {
-    Err(Stop::Memory)
+    let mut left = values;
+    let mut polys = Items::new(alloc);
+    while let Some(value) = left.pop() {
+        polys.push(poly_of(value)?)?;
+    }
+    Ok(turned(alloc, polys)?)
+}
+
+// The polynomials in reverse order.
+fn turned(alloc: Global, polys: Items<GPoly>) -> Result<Items<GPoly>, AllocError>
+    ensures { IfOk result (λ r. r ≡ reverse polys) }
+{
+    let mut left = polys;
+    let mut turned = Items::new(alloc);
+    while let Some(f) = left.pop() {
+        turned.push(f)?;
+    }
+    Ok(turned)
 }
 
 /// Whether a matrix may have a side of this length.
@@ -82,7 +99,51 @@ pub fn matrix_of(alloc: Global, rows: u64, columns: u64, polys: Items<GPoly>) ->
     ensures value { Gives result (spec.matrix_of rows columns polys) }
     ensures of_ring { (A : Algebra) → ArePolynomials A polys → IfOk result (IsValueOf A) }
 {
-    Err(Stop::Memory)
+    if polys.len() as u64 > rows * columns {
+        return Err(Stop::Refused(Refusal::Limit));
+    }
+    let left = turned(alloc, polys)?;
+    Ok(Value::Matrix(matrix_rows(alloc, rows, columns, left)?))
+}
+
+// The rows of a matrix, filled with the last polynomial first.
+fn matrix_rows(
+    alloc: Global,
+    rows: u64,
+    columns: u64,
+    polys: Items<GPoly>,
+) -> Result<Items<Row>, AllocError>
+    ensures { IfOk result (λ r. r ≡ spec.matrix_rows rows columns (reverse polys)) }
+{
+    let mut left = polys;
+    let mut made = Items::new(alloc);
+    for _row in 0..rows {
+        made.push(next_row(alloc, columns, &mut left)?)?;
+    }
+    Ok(made)
+}
+
+// A row with the last polynomials, the last one first, and zero where there are none left.
+fn next_row(alloc: Global, columns: u64, left: &mut Items<GPoly>) -> Result<Row, AllocError>
+    ensures row { IfOk result (λ r. r ≡ take columns (reverse left.old ++ replicate columns [])) }
+    ensures left { OnOk result (reverse left.new ≡ drop columns (reverse left.old)) }
+{
+    let mut entries = Vec::new(alloc);
+    for _column in 0..columns {
+        entries.push(next_entry(alloc, left))?;
+    }
+    Ok(Row { entries })
+}
+
+// The last polynomial, zero where there is none.
+fn next_entry(alloc: Global, left: &mut Items<GPoly>) -> GPoly
+    ensures entry { result ≡ slice_index_or (reverse left.old) 0 [] }
+    ensures left { reverse left.new ≡ drop 1 (reverse left.old) }
+{
+    match left.pop() {
+        Some(f) => f,
+        None => GPoly::zero(alloc),
+    }
 }
 
 /// Whether a matrix has an entry in this row and column, which count from 1. The columns are those of the first row.
@@ -108,5 +169,21 @@ pub fn with_entry(
     ensures value { IfOk result (λ r. r ≡ spec.with_entry rows.now row column f) }
     ensures of_ring { (A : Algebra) → Each (ArePolynomials A) rows.now → IsPolynomial A.p A.order f → IfOk result (Each (ArePolynomials A)) }
 {
-    Err(AllocError)
+    let place = row as usize - 1;
+    let changed = row_with(alloc, &rows[place], column as usize - 1, f)?;
+    let mut all = copy_rows(alloc, &rows[..place])?;
+    all.push(changed)?;
+    all.append(copy_rows(alloc, &rows[place + 1..])?)?;
+    Ok(all)
+}
+
+// The row with this polynomial at this place, where it has the place.
+fn row_with(alloc: Global, row: &Row, place: usize, f: GPoly) -> Result<Row, AllocError>
+    ensures { IfOk result (λ r. r ≡ slice_set row.now place f) }
+{
+    let mut changed = row.copy(alloc)?;
+    if place < changed.entries.len() {
+        changed.entries[place] = f;
+    }
+    Ok(changed)
 }

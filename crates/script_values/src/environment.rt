@@ -2,7 +2,8 @@
 
 ghost use Rattle.std.specs.Prelude.{◌≡◌, Some, is_some, option_copied, slice_get, IfSome, OnOk};
 ghost use Rattle.std.specs.List.{list_any};
-ghost use Rattle.script_model.specs.Environment.{find, here, newest_current, no_rings, with_ring, with_value};
+ghost use Rattle.script_model.specs.Environment.{find, here, newest_current, no_rings, put, with_ring, with_value};
+ghost use Rattle.script_values.specs.Kept.{entries_of};
 ghost use Rattle.script_values.specs.Values.{IsValueOf};
 
 use crate::Ring;
@@ -88,7 +89,12 @@ impl Environment {
     pub fn add_ring(&mut self, alloc: Global, name: &[u8], ring: Ring) -> Result<(), AllocError>
         ensures { OnOk result (self.new ≡ with_ring self.old name.now ring) }
     {
-        Err(AllocError)
+        let Ok(number) = u32::try_from(self.rings.len()) else {
+            return Err(AllocError);
+        };
+        self.rings.push(ring)?;
+        put_number(alloc, &mut self.ring_names, name, number)?;
+        Ok(())
     }
 
     /// A new ring of this name, which is current now.
@@ -100,7 +106,10 @@ impl Environment {
     ) -> Result<(), AllocError>
         ensures { OnOk result (self.new ≡ newest_current self.old name.now ring) }
     {
-        Err(AllocError)
+        let place = self.rings.len();
+        self.add_ring(alloc, name, ring)?;
+        self.current = Some(place);
+        Ok(())
     }
 
     /// Whether some ring has a value of this name.
@@ -108,5 +117,21 @@ impl Environment {
         ensures { result ≡ list_any (λ R. is_some (find name.now R.values)) self.now.rings }
     {
         self.rings.iter().any(|ring| ring.find(name).is_some())
+    }
+}
+
+// The name names this number now.
+fn put_number(
+    alloc: Global,
+    numbers: &mut BTreeMap<Vec<u8>, u32>,
+    name: &[u8],
+    number: u32,
+) -> Result<(), AllocError>
+    ensures { OnOk result (entries_of numbers.new.entries ≡ put name.now number (entries_of numbers.old.entries)) }
+{
+    let key = Vec::from_slice(alloc, name)?;
+    match numbers.insert(key, number) {
+        Ok(_) => Ok(()),
+        Err(_) => Err(AllocError),
     }
 }

@@ -9,6 +9,7 @@ ghost use Rattle.script_model.specs.Expressions as spec;
 ghost use Rattle.script_values.specs.Gives.{Gives, Stops};
 ghost use Rattle.script_values.specs.Values.{ArePolynomials, IsValueOf};
 
+use crate::assigning::is_in_matrix;
 use crate::operations::variable;
 use crate::tokens::{number, text};
 use crate::{Scope, Stop};
@@ -120,5 +121,12 @@ fn matrix_entry(scope: &Scope, rows: &[Row], row: u64, column: u64) -> Result<Va
     ensures value { Gives result (entry_of (variant.Matrix rows.now) row (Some column)) }
     ensures of_ring { IfOk result (IsValueOf scope.now.ring.algebra) }
 {
-    Err(Stop::Memory)
+    if !is_in_matrix(rows, row, column) {
+        return Err(Stop::Refused(Refusal::Index));
+    }
+    let entries = &rows[row as usize - 1];
+    match entries.entries.get(column as usize - 1) {
+        Some(f) => Ok(Value::Poly(f.copy(scope.alloc)?)),
+        None => Ok(Value::Poly(GPoly::zero(scope.alloc))),
+    }
 }

@@ -3,7 +3,7 @@ use Rattle.plural_syntax.specs.Words.{text_of}
 use Rattle.word_model.specs.Products.{variable_polynomial}
 use Rattle.script_model.specs.Environment.{Scope, find, variable_place, not_here}
 use Rattle.script_values.specs.Gives.{Gives, Stops}
-use Rattle.script_values.proofs.Naming.{as_variable, as_value, as_ring, as_nothing, go}
+use Rattle.script_values.proofs.Naming.{as_variable, as_value, as_ring, as_nothing}
 use Rattle.script_values.proofs.Stopping.{stops_before}
 use Rattle.script_values.proofs.names.named.Goals as goal
 

@@ -1,5 +1,4 @@
 use Rattle.std.proofs.Common.{ap, subst, ◌∙◌}
-use Rattle.std.specs.Prelude.{IfSome}
 use Rattle.std.specs.Map.{values_of}
 use Rattle.script_model.specs.Environment.{Ring, find}
 use Rattle.script_values.specs.Values.{IsValueOf}

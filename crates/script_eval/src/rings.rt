@@ -2,24 +2,23 @@
 
 ghost use Rattle.std.specs.Prelude.{◌≡◌, IfOk};
 ghost use Rattle.monomials.specs.Polynomials.{Each};
-ghost use Rattle.plural_syntax.specs.Words.{text_of};
 ghost use Rattle.plural_text.specs.Names.{IsName};
 ghost use Rattle.script_model.specs.Environment.{find};
-ghost use Rattle.script_model.specs.Tokens.{number as number_in};
 ghost use Rattle.script_model.specs.Statements as spec;
+ghost use Rattle.script_values.specs.Gives.{Gives};
 ghost use Rattle.script_eval.specs.Leads.{Leads};
 ghost use Rattle.script_eval.specs.Seats.{IsSeatOf};
 
+use crate::expressions::{LEVELS, value};
 use crate::next::Next;
 use crate::session::Session;
 use crate::statements::silent;
 use gproduct::TableSeat;
-use plural_lexer::Token;
 use plural_syntax::{ExprPair, Order, Vars};
 use run_records::Engine;
 use script_model::values::Refusal;
-use script_values::tokens::{number, text};
-use script_values::{Environment, Stop};
+use script_rings::{nc_ring, new_ring};
+use script_values::{Environment, Ring, Stop};
 use sqlite_items::Items;
 use std::alloc::Global;
 
@@ -27,30 +26,21 @@ use std::alloc::Global;
 pub fn ring(
     session: &Session,
     environment: &mut Environment,
-    name: &Token,
-    characteristic: &Token,
+    name: &[u8],
+    characteristic: u64,
     vars: &Vars,
     order: &Order,
 ) -> Result<Next, Stop>
     requires names { Each IsName (spec.names_of session.now.bytes vars.now) }
-    ensures { Leads result environment.new (spec.ring_made session.now.bytes session.now.budget environment.old (text_of session.now.bytes name.now) (number_in session.now.bytes characteristic.now) vars.now order.now) }
+    ensures { Leads result environment.new (spec.ring_made session.now.bytes session.now.budget environment.old name.now characteristic vars.now order.now) }
 {
-    Err(Stop::Memory)
+    let ring = new_ring(session.alloc, session.bytes, characteristic, vars, order)?;
+    environment.add_current_ring(session.alloc, name, ring)?;
+    Ok(silent(session.alloc))
 }
 
 /// The ring of this name is current now.
-pub fn set_ring(
-    session: &Session,
-    environment: &mut Environment,
-    name: &Token,
-) -> Result<Next, Stop>
-    ensures { Leads result environment.new (spec.set_ring environment.old (text_of session.now.bytes name.now) (find (text_of session.now.bytes name.now) environment.old.ring_names)) }
-{
-    choose(session.alloc, environment, text(session.bytes, name))
-}
-
-// The ring of this name is current now.
-fn choose(alloc: Global, environment: &mut Environment, name: &[u8]) -> Result<Next, Stop>
+pub fn set_ring(alloc: Global, environment: &mut Environment, name: &[u8]) -> Result<Next, Stop>
     ensures { Leads result environment.new (spec.set_ring environment.old name.now (find name.now environment.old.ring_names)) }
 {
     match environment.ring_number(name) {
@@ -68,14 +58,39 @@ pub fn nc_algebra<E: Engine>(
     engine: &mut E,
     seat: &mut TableSeat,
     environment: &mut Environment,
-    name: &Token,
+    name: &[u8],
     both: &ExprPair,
 ) -> Result<Next, Stop>
     requires ready { E.can_run engine.old }
     requires seat { IsSeatOf seat.old.algebra environment.old }
     ensures ready { E.can_run engine.new }
     ensures seat { seat.new.algebra ≡ seat.old.algebra }
-    ensures leads { Leads result environment.new (spec.algebra_made session.now.bytes session.now.budget environment.old (text_of session.now.bytes name.now) both.now.first both.now.second) }
+    ensures leads { Leads result environment.new (spec.algebra_made session.now.bytes session.now.budget environment.old name.now both.now.first both.now.second) }
 {
-    Err(Stop::Memory)
+    let made = new_algebra(session, engine, seat, environment, both)?;
+    environment.add_ring(session.alloc, name, made)?;
+    Ok(silent(session.alloc))
+}
+
+// The ring that `nc_algebra` makes of the current one.
+fn new_algebra<E: Engine>(
+    session: &Session,
+    engine: &mut E,
+    seat: &mut TableSeat,
+    environment: &Environment,
+    both: &ExprPair,
+) -> Result<Ring, Stop>
+    requires ready { E.can_run engine.old }
+    requires seat { IsSeatOf seat.old.algebra environment.now }
+    ensures ready { E.can_run engine.new }
+    ensures seat { seat.new.algebra ≡ seat.old.algebra }
+    ensures value { Gives result (spec.new_algebra session.now.bytes session.now.budget environment.now both.now.first both.now.second) }
+{
+    let Some(ring) = environment.here() else {
+        return Err(Stop::Refused(Refusal::NoRing));
+    };
+    let scope = session.scope(environment, ring);
+    let c = value(&scope, engine, seat, LEVELS, &both.first)?;
+    let d = value(&scope, engine, seat, LEVELS, &both.second)?;
+    nc_ring(session.alloc, ring, &c, &d)
 }

@@ -1,6 +1,8 @@
 //! What all statements of a script share.
 
-use script_values::Budget;
+ghost use Rattle.std.specs.Prelude.{◌≡◌};
+
+use script_values::{Budget, Environment, Ring, Scope};
 use std::alloc::Global;
 use std::marker::Model;
 
@@ -18,4 +20,19 @@ impl<'a> Model for Session<'a> {
     ghost Value = { ModelSession };
 
     ghost view = { λ s. record { bytes = s.bytes.now; budget = s.budget } };
+}
+
+impl<'a> Session<'a> {
+    /// Where expressions are evaluated in this ring.
+    pub fn scope(&self, environment: &'a Environment, ring: &'a Ring) -> Scope<'a>
+        ensures { result ≡ record { bytes = self.now.bytes; budget = self.now.budget; environment = environment.now; ring = ring.now } }
+    {
+        Scope {
+            alloc: self.alloc,
+            bytes: self.bytes,
+            budget: self.budget,
+            environment,
+            ring,
+        }
+    }
 }

@@ -16,13 +16,12 @@ use crate::next::Next;
 use crate::rings::{nc_algebra, ring, set_ring};
 use crate::session::Session;
 use gproduct::TableSeat;
-use plural_lexer::Token;
 use plural_syntax::{Expr, Statement, TokenList};
 use run_records::Engine;
 use script_model::values::Refusal;
 use script_values::printing::{label_of, printed};
-use script_values::tokens::text;
-use script_values::{Environment, Scope, Stop};
+use script_values::tokens::{number, text};
+use script_values::{Environment, Stop};
 use sqlite_items::Items;
 use std::alloc::Global;
 
@@ -42,12 +41,65 @@ pub fn done_by<E: Engine>(
     ensures seat { seat.new.algebra ≡ seat.old.algebra }
     ensures leads { Leads result environment.new (spec.done_by session.now.bytes session.now.budget environment.old statement.now) }
 {
+    let (alloc, bytes) = (session.alloc, session.bytes);
     match statement {
-        Statement::Empty { .. } | Statement::Short { .. } => Ok(silent(session.alloc)),
+        Statement::Empty { .. } | Statement::Short { .. } => Ok(silent(alloc)),
         Statement::Quit { .. } => Ok(Next::Quits),
         Statement::Option { names, .. } => options(session, &*environment, &names.list),
+        Statement::SetRing { name, .. } => set_ring(alloc, environment, text(bytes, name)),
+        Statement::Ring {
+            name,
+            characteristic,
+            vars,
+            order,
+            ..
+        } => {
+            let p = number(bytes, characteristic);
+            ring(session, environment, text(bytes, name), p, vars.get(), order.get())
+        }
+        Statement::NcAlgebra { name, data, .. } => {
+            let name = text(bytes, name);
+            nc_algebra(session, engine, seat, environment, name, data.get())
+        }
+        Statement::Def { name, value, .. } => {
+            def(session, engine, seat, environment, text(bytes, name), value.get())
+        }
+        Statement::Poly { name, value, .. } => {
+            poly(session, engine, seat, environment, text(bytes, name), value)
+        }
+        Statement::Ideal { name, values, .. } => {
+            ideal(session, engine, seat, environment, text(bytes, name), values)
+        }
+        Statement::Module { name, value, .. } => {
+            module(session, engine, seat, environment, text(bytes, name), value)
+        }
+        Statement::Matrix {
+            name,
+            rows,
+            columns,
+            values,
+            ..
+        } => {
+            let name = text(bytes, name);
+            let r = number(bytes, &rows.get().number);
+            let c = number(bytes, &columns.get().number);
+            matrix(session, engine, seat, environment, name, r, c, values)
+        }
+        Statement::Assign { name, list, .. } => {
+            assign(session, engine, seat, environment, text(bytes, name), list.get())
+        }
+        Statement::AssignEntry {
+            name,
+            row,
+            column,
+            value,
+            ..
+        } => {
+            let name = text(bytes, name);
+            let (i, j) = (number(bytes, row), number(bytes, column));
+            assign_entry(session, engine, seat, environment, name, i, j, value.get())
+        }
         Statement::Print { value, .. } => print(session, engine, seat, &*environment, value.get()),
-        _ => Err(Stop::Memory),
     }
 }
 
@@ -79,18 +131,12 @@ fn print<E: Engine>(
     ensures seat { seat.new.algebra ≡ seat.old.algebra }
     ensures leads { Leads result environment.now (spec.print session.now.bytes session.now.budget environment.now expr.now (here environment.now)) }
 {
-    let (alloc, bytes, budget) = (session.alloc, session.bytes, session.budget);
     let Some(ring) = environment.here() else {
         return Err(Stop::Refused(Refusal::NoRing));
     };
-    let scope = Scope {
-        alloc,
-        bytes,
-        budget,
-        environment,
-        ring,
-    };
+    let scope = session.scope(environment, ring);
     let found = value(&scope, engine, seat, LEVELS, expr)?;
-    let text = printed(alloc, environment, ring, label_of(bytes, expr), &found)?;
+    let label = label_of(session.bytes, expr);
+    let text = printed(session.alloc, environment, ring, label, &found)?;
     Ok(Next::Goes(text))
 }

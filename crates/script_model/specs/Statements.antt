@@ -263,9 +263,12 @@ module _ (bytes : List ℕ) (budget : ℕ) (E : Environment) where
   abbrev pub free : Text → Ring → Outcome Ring
   free name R = if is_some (variable_place R name) then Err (refused.Taken name) else Ok R
 
+  abbrev pub free_ring : Text → Outcome Ring
+  free_ring name = current >>= free name
+
   -- a declaration of this name, with this value
   abbrev pub declared_value : Text → (Ring → Outcome Value) → Outcome Value
-  declared_value name v = current >>= free name >>= v
+  declared_value name v = free_ring name >>= v
 
   abbrev pub declared : Text → (Ring → Outcome Value) → Outcome Done
   declared name v = declared_value name v >>= λ w. silent (with_value E name w)
@@ -304,24 +307,39 @@ module _ (bytes : List ℕ) (budget : ℕ) (E : Environment) where
   ring_made name p variables order = new_ring bytes p (names_of bytes variables) order >>= λ R. silent (newest_current E name R)
 
   -- the ring that nc_algebra(e, f) makes of the current one
+  abbrev pub algebra_in : Expr → Expr → Ring → Outcome Ring
+  algebra_in e f R = value R e >>= λ v. value R f >>= λ w. nc_ring R v w
+
   abbrev pub new_algebra : Expr → Expr → Outcome Ring
-  new_algebra e f = current >>= λ R. value R e >>= λ v. value R f >>= λ w. nc_ring R v w
+  new_algebra e f = current >>= algebra_in e f
 
   abbrev pub algebra_made : Text → Expr → Expr → Outcome Done
   algebra_made name e f = new_algebra e f >>= λ Q. silent (with_ring E name Q)
 
-  -- the values in the place of the value of this name
+  -- the value of this name in a ring
+  abbrev pub old_value : Ring → Text → Outcome Value
+  old_value R name = look_up E R name >>= known
+
+  -- values in the place of the value of this name
+  abbrev pub assigned_in : Text → List Expr → Ring → Outcome Value
+  assigned_in name es R = old_value R name >>= λ old. values R es >>= in_place_of old
+
   abbrev pub assigned_value : Text → List Expr → Outcome Value
-  assigned_value name es = current >>= λ R. look_up E R name >>= known >>= λ old. values R es >>= in_place_of old
+  assigned_value name es = current >>= assigned_in name es
 
   abbrev pub assigned : Text → List Expr → Outcome Done
   assigned name es = assigned_value name es >>= λ new. silent (with_value E name new)
 
-  -- the matrix of this name with the entry (i, j)
+  -- the rows of the matrix of this name, where it has an entry (i, j)
+  abbrev pub old_rows : Ring → Text → ℕ → ℕ → Outcome (List (List Polynomial))
+  old_rows R name i j = old_value R name >>= matrix_rows_of >>= λ rows. in_matrix rows i j
+
+  -- the matrix of this name with another entry (i, j)
+  abbrev pub entry_in : Text → ℕ → ℕ → Expr → Ring → Outcome Value
+  entry_in name i j e R = old_rows R name i j >>= λ rows. value R e >>= poly_of >>= λ f. Ok (Matrix (with_entry rows i j f))
+
   abbrev pub entry_value : Text → ℕ → ℕ → Expr → Outcome Value
-  entry_value name i j e =
-      current >>= λ R. look_up E R name >>= known >>= matrix_rows_of >>= (λ rows. in_matrix rows i j) >>= λ rows.
-      value R e >>= poly_of >>= λ f. Ok (Matrix (with_entry rows i j f))
+  entry_value name i j e = current >>= entry_in name i j e
 
   abbrev pub entry_assigned : Text → ℕ → ℕ → Expr → Outcome Done
   entry_assigned name i j e = entry_value name i j e >>= λ v. silent (with_value E name v)

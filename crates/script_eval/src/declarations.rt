@@ -10,10 +10,11 @@ ghost use Rattle.script_values.specs.Values.{ArePolynomials, IsValueOf};
 ghost use Rattle.script_eval.specs.Leads.{Leads};
 ghost use Rattle.script_eval.specs.Seats.{IsSeatOf};
 
-use crate::expressions::{LEVELS, all_values, value};
+use crate::expressions::{value_of, values_of};
 use crate::next::Next;
 use crate::session::Session;
 use crate::statements::silent;
+use gpoly::GPoly;
 use gproduct::TableSeat;
 use plural_syntax::{Expr, Value as Given, Values};
 use run_records::Engine;
@@ -23,7 +24,6 @@ use script_values::assigning::{all_polys, as_module, as_poly, is_side, matrix_of
 use script_values::{Environment, Ring, Scope, Stop};
 use sqlite_items::{Boxed, Items};
 use std::alloc::Global;
-use gpoly::GPoly;
 
 /// A value of any kind but a ring.
 pub fn def<E: Engine>(
@@ -64,7 +64,7 @@ fn def_value<E: Engine>(
 {
     let ring = free_ring(session, environment, name)?;
     let scope = session.scope(environment, ring);
-    not_ring(value(&scope, engine, seat, LEVELS, given)?)
+    not_ring(value_of(&scope, engine, seat, given)?)
 }
 
 /// A poly, 0 where none is given.
@@ -109,7 +109,7 @@ fn poly_value<E: Engine>(
     let Some(given) = given else {
         return Ok(Value::Poly(GPoly::zero(session.alloc)));
     };
-    as_poly(value(&scope, engine, seat, LEVELS, &given.get().expr)?)
+    as_poly(value_of(&scope, engine, seat, &given.get().expr)?)
 }
 
 /// An ideal of polys and ideals, joined in order; of the poly 0 alone where none is given.
@@ -156,7 +156,7 @@ fn ideal_value<E: Engine>(
         zero.push(GPoly::zero(session.alloc))?;
         return Ok(Value::Ideal(zero));
     };
-    let found = all_values(&scope, engine, seat, LEVELS, &given.get().list)?;
+    let found = values_of(&scope, engine, seat, &given.get().list)?;
     ideal_of(&scope, found.as_slice())
 }
 
@@ -202,7 +202,7 @@ fn module_value<E: Engine>(
     let Some(given) = given else {
         return Ok(Value::Module(Items::new(session.alloc)));
     };
-    as_module(value(&scope, engine, seat, LEVELS, &given.get().expr)?)
+    as_module(value_of(&scope, engine, seat, &given.get().expr)?)
 }
 
 /// A matrix with these sides, filled row by row with polys, and with 0 where there are none left.
@@ -223,7 +223,16 @@ pub fn matrix<E: Engine>(
     ensures leads { Leads result environment.new (spec.declared session.now.bytes session.now.budget environment.old name.now
         (spec.matrix_value session.now.bytes session.now.budget environment.old rows columns given.now)) }
 {
-    let value = matrix_value(session, engine, seat, environment, name, rows, columns, given)?;
+    let value = matrix_value(
+        session,
+        engine,
+        seat,
+        environment,
+        name,
+        rows,
+        columns,
+        given,
+    )?;
     put(session.alloc, environment, name, value)
 }
 
@@ -272,7 +281,7 @@ fn entries<E: Engine>(
     let Some(given) = given else {
         return Ok(Items::new(scope.alloc));
     };
-    let found = all_values(scope, engine, seat, LEVELS, &given.get().list)?;
+    let found = values_of(scope, engine, seat, &given.get().list)?;
     all_polys(scope.alloc, found)
 }
 

@@ -5,6 +5,7 @@ ghost use Rattle.monomials.specs.Polynomials.{Each, IsPolynomial};
 ghost use Rattle.word_model.specs.Words.{Algebra};
 ghost use Rattle.script_model.specs.Operations.{poly_of as poly_of_value};
 ghost use Rattle.script_model.specs.Expressions as spec;
+ghost use Rattle.script_model.specs.Statements as statement;
 ghost use Rattle.script_values.specs.Gives.{Gives};
 ghost use Rattle.script_values.specs.Values.{IsValueOf};
 
@@ -20,13 +21,47 @@ use script_values::tokens::{is_minus, number};
 use script_values::{Scope, Stop, operations};
 use sqlite_items::{Boxed, Items};
 
-/// One more than the levels of parentheses that a script may have.
-pub const LEVELS: u32 = 65;
+// One more than the levels of parentheses that a script may have.
+const LEVELS: u32 = 65;
 
-/// The value of an expression with fewer than `levels` levels of parentheses.
+/// The value of an expression of a statement.
+pub fn value_of<E: Engine>(
+    scope: &Scope,
+    engine: &mut E,
+    seat: &mut TableSeat,
+    expr: &Expr,
+) -> Result<Value, Stop>
+    requires ready { E.can_run engine.old }
+    requires seat { seat.old.algebra ≡ scope.now.ring.algebra }
+    ensures value { Gives result (statement.value scope.now.bytes scope.now.budget scope.now.environment scope.now.ring expr.now) }
+    ensures of_ring { IfOk result (IsValueOf scope.now.ring.algebra) }
+    ensures ready { E.can_run engine.new }
+    ensures seat { seat.new.algebra ≡ seat.old.algebra }
+{
+    value(scope, engine, seat, LEVELS, expr)
+}
+
+/// The values of a list of a statement.
+pub fn values_of<E: Engine>(
+    scope: &Scope,
+    engine: &mut E,
+    seat: &mut TableSeat,
+    list: &ExprList,
+) -> Result<Items<Value>, Stop>
+    requires ready { E.can_run engine.old }
+    requires seat { seat.old.algebra ≡ scope.now.ring.algebra }
+    ensures value { Gives result (statement.values scope.now.bytes scope.now.budget scope.now.environment scope.now.ring (spec.exprs_of list.now)) }
+    ensures of_ring { IfOk result (Each (IsValueOf scope.now.ring.algebra)) }
+    ensures ready { E.can_run engine.new }
+    ensures seat { seat.new.algebra ≡ seat.old.algebra }
+{
+    all_values(scope, engine, seat, LEVELS, list)
+}
+
+// The value of an expression with fewer than `levels` levels of parentheses.
 #[cycle(evaluate)]
 #[tactic(auto, unfolding(script_model::specs::Expressions::value_within))]
-pub fn value<E: Engine>(
+fn value<E: Engine>(
     scope: &Scope,
     engine: &mut E,
     seat: &mut TableSeat,
@@ -216,7 +251,7 @@ fn called<E: Engine>(
 
 // The values of arguments.
 #[cycle(evaluate)]
-pub fn all_values<E: Engine>(
+fn all_values<E: Engine>(
     scope: &Scope,
     engine: &mut E,
     seat: &mut TableSeat,

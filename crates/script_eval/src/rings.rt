@@ -9,7 +9,7 @@ ghost use Rattle.script_values.specs.Gives.{Gives};
 ghost use Rattle.script_eval.specs.Leads.{Leads};
 ghost use Rattle.script_eval.specs.Seats.{IsSeatOf};
 
-use crate::expressions::{LEVELS, value};
+use crate::expressions::value_of;
 use crate::next::Next;
 use crate::session::Session;
 use crate::statements::silent;
@@ -90,7 +90,7 @@ fn new_algebra<E: Engine>(
         return Err(Stop::Refused(Refusal::NoRing));
     };
     let scope = session.scope(environment, ring);
-    let c = value(&scope, engine, seat, LEVELS, &both.first)?;
-    let d = value(&scope, engine, seat, LEVELS, &both.second)?;
+    let c = value_of(&scope, engine, seat, &both.first)?;
+    let d = value_of(&scope, engine, seat, &both.second)?;
     nc_ring(session.alloc, ring, &c, &d)
 }

@@ -1,7 +1,8 @@
 //! What a statement does.
 
-ghost use Rattle.std.specs.Prelude.{◌≡◌, [], IfOk};
-ghost use Rattle.script_model.specs.Environment.{here, find};
+ghost use Rattle.std.specs.Prelude.{◌≡◌, ◌∷◌, [], IfErr, OnOk};
+ghost use Rattle.script_values.specs.Gives.{Stops};
+ghost use Rattle.script_model.specs.Environment.{here};
 ghost use Rattle.script_model.specs.Statements as spec;
 ghost use Rattle.script_eval.specs.declared.next.Next.TheVariants as next;
 ghost use Rattle.script_eval.specs.Leads.{Leads};
@@ -11,11 +12,12 @@ ghost use Rattle.script_model.specs.Orders.{tokens_of};
 
 use crate::assignments::{assign, assign_entry};
 use crate::declarations::{def, ideal, matrix, module, poly};
-use crate::expressions::{LEVELS, value};
+use crate::expressions::value_of;
 use crate::next::Next;
 use crate::rings::{nc_algebra, ring, set_ring};
 use crate::session::Session;
 use gproduct::TableSeat;
+use plural_lexer::Token;
 use plural_syntax::{Expr, Statement, TokenList};
 use run_records::Engine;
 use script_model::values::Refusal;
@@ -55,20 +57,41 @@ pub fn done_by<E: Engine>(
             ..
         } => {
             let p = number(bytes, characteristic);
-            ring(session, environment, text(bytes, name), p, vars.get(), order.get())
+            ring(
+                session,
+                environment,
+                text(bytes, name),
+                p,
+                vars.get(),
+                order.get(),
+            )
         }
         Statement::NcAlgebra { name, data, .. } => {
             let name = text(bytes, name);
             nc_algebra(session, engine, seat, environment, name, data.get())
         }
         Statement::Def { name, value, .. } => {
-            def(session, engine, seat, environment, text(bytes, name), value.get())
+            def(
+                session,
+                engine,
+                seat,
+                environment,
+                text(bytes, name),
+                value.get(),
+            )
         }
         Statement::Poly { name, value, .. } => {
             poly(session, engine, seat, environment, text(bytes, name), value)
         }
         Statement::Ideal { name, values, .. } => {
-            ideal(session, engine, seat, environment, text(bytes, name), values)
+            ideal(
+                session,
+                engine,
+                seat,
+                environment,
+                text(bytes, name),
+                values,
+            )
         }
         Statement::Module { name, value, .. } => {
             module(session, engine, seat, environment, text(bytes, name), value)
@@ -86,7 +109,14 @@ pub fn done_by<E: Engine>(
             matrix(session, engine, seat, environment, name, r, c, values)
         }
         Statement::Assign { name, list, .. } => {
-            assign(session, engine, seat, environment, text(bytes, name), list.get())
+            assign(
+                session,
+                engine,
+                seat,
+                environment,
+                text(bytes, name),
+                list.get(),
+            )
         }
         Statement::AssignEntry {
             name,
@@ -114,7 +144,26 @@ pub fn silent(alloc: Global) -> Next
 fn options(session: &Session, environment: &Environment, names: &TokenList) -> Result<Next, Stop>
     ensures { Leads result environment.now (spec.options session.now.bytes session.now.budget environment.now (tokens_of names.now)) }
 {
-    Err(Stop::Memory)
+    test_option(session, environment, &names.first)?;
+    for after in names.more.as_slice() {
+        test_option(session, environment, &after.token)?;
+    }
+    Ok(silent(session.alloc))
+}
+
+// Refuses a name that is no option's.
+fn test_option(session: &Session, environment: &Environment, name: &Token) -> Result<(), Stop>
+    ensures passed { OnOk result ((more : _) → spec.options session.now.bytes session.now.budget environment.now (name.now ∷ more)
+        ≡ spec.options session.now.bytes session.now.budget environment.now more) }
+    ensures refused { IfErr result (λ stop. (more : _) → Stops stop (spec.options session.now.bytes session.now.budget environment.now (name.now ∷ more))) }
+{
+    let name = text(session.bytes, name);
+    if name == b"redSB".as_slice() || name == b"redTail".as_slice() {
+        Ok(())
+    } else {
+        let name = Items::from_slice(session.alloc, name)?;
+        Err(Stop::Refused(Refusal::Name(name)))
+    }
 }
 
 // Prints the value of an expression.
@@ -135,7 +184,7 @@ fn print<E: Engine>(
         return Err(Stop::Refused(Refusal::NoRing));
     };
     let scope = session.scope(environment, ring);
-    let found = value(&scope, engine, seat, LEVELS, expr)?;
+    let found = value_of(&scope, engine, seat, expr)?;
     let label = label_of(session.bytes, expr);
     let text = printed(session.alloc, environment, ring, label, &found)?;
     Ok(Next::Goes(text))

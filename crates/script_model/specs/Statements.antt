@@ -197,14 +197,27 @@ abbrev pub as_module : Value → Outcome Value
 as_module (Module rows) = Ok (Module rows)
 as_module _ = Err refused.Kind
 
+abbrev pub as_matrix : Value → Outcome Value
+as_matrix (Matrix rows) = Ok (Matrix rows)
+as_matrix _ = Err refused.Kind
+
+abbrev pub as_lines : Value → Outcome Value
+as_lines (Lines text) = Ok (Lines text)
+as_lines _ = Err refused.Kind
+
+-- one value alone
+abbrev pub single : List Value → Outcome Value
+single (v ∷ []) = Ok v
+single _ = Err refused.Kind
+
 -- values that take the place of this one: for an ideal polys and ideals, and else one value of its kind
 abbrev pub in_place_of : Value → List Value → Outcome Value
 in_place_of (Ideal gens) vs = ideal vs
-in_place_of (Poly f) (Poly g ∷ []) = Ok (Poly g)
-in_place_of (Module rows) (Module new ∷ []) = Ok (Module new)
-in_place_of (Matrix rows) (Matrix new ∷ []) = Ok (Matrix new)
-in_place_of (Lines text) (Lines new ∷ []) = Ok (Lines new)
-in_place_of _ vs = Err refused.Kind
+in_place_of (Poly f) vs = single vs >>= as_poly
+in_place_of (Module rows) vs = single vs >>= as_module
+in_place_of (Matrix rows) vs = single vs >>= as_matrix
+in_place_of (Lines text) vs = single vs >>= as_lines
+in_place_of (RingValue k) vs = Err refused.Kind
 
 abbrev pub all_polys : List Value → Outcome (List Polynomial)
 all_polys [] = Ok []

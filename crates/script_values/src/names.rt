@@ -41,8 +41,8 @@ pub fn named(scope: &Scope, name: &Token, index: &Option<Boxed<Index>>) -> Resul
     }
 }
 
-// The refusal of a name that is none here.
-fn not_here(scope: &Scope, name: &[u8]) -> Stop
+/// The refusal of a name that is none here: another ring has a value of it, or none has.
+pub fn not_here(scope: &Scope, name: &[u8]) -> Stop
     ensures { Stops result (not_here scope.now.environment name.now) }
 {
     match Items::from_slice(scope.alloc, name) {

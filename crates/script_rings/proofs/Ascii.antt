@@ -3,7 +3,8 @@ use Rattle.std.proofs.Common.{◌≡◌, ℕ, zero, suc, ◌<◌, true, List, []
 use Rattle.std.proofs.lemmas.Bool.Decides.{nat_tests}
 use Rattle.std.specs.Str.{IsAscii}
 use Rattle.monomials.specs.Polynomials.{Each}
-use Rattle.plural_text.specs.Names.{is_letter, is_name_byte, IsName}
+use Rattle.plural_lexer.specs.Letters.{is_letter, is_name_byte}
+use Rattle.plural_text.specs.Names.{IsName}
 
 letter_below : (b : ℕ) → is_letter b ≡ true → b < 128
 letter_below b h = grind (arith, nat_tests, h)

@@ -1,8 +1,10 @@
 -- The entries for pairs of variables, one by one.
-use Rattle.std.specs.Prelude.{ℕ, Bool, true, false, []}
+use Rattle.std.specs.Prelude.{◌<◌, ◌≤◌, ℕ, Bool, true, false, [], Option}
 use Rattle.monomials.specs.Polynomials.{Polynomial}
+use Rattle.word_model.specs.Conditions.{Fault}
 use Rattle.algebra.specs.declared.AlgebraFault.{AlgebraFault}
 use Rattle.algebra.specs.declared.AlgebraFault.TheVariants.{NonDegeneracy}
+use Rattle.algebra.specs.Faults.{IsReported}
 use Rattle.script_model.specs.declared.values.Value.{Value}
 use Rattle.script_model.specs.declared.values.Value.TheVariants.{Poly, Matrix}
 use Rattle.script_model.specs.Operations.{matrix_entry}
@@ -24,3 +26,11 @@ entry_for _ ij = []
 abbrev pub RestIs : (Polynomial → Type 0) → AlgebraFault → Type 0
 RestIs P (NonDegeneracy i j k rest) = P rest
 RestIs P _ = Unit {0}
+
+-- the fault is this one, or that memory ran out
+abbrev pub IsFirst : Option Fault → AlgebraFault → Type 0
+IsFirst first e = IsReported first (Unit {0}) e
+
+-- the first number of a pair is below the second
+abbrev pub IsPair : ℕ × ℕ → Type 0
+IsPair ij = (1 ≤ ij.0) × (ij.0 < ij.1)

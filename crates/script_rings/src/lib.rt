@@ -5,6 +5,7 @@ mod blocks;
 mod commuting;
 mod entries;
 mod names;
+mod pairs;
 mod relations;
 
 pub use commuting::new_ring;

@@ -125,3 +125,14 @@ fn contains(names: &[String], name: &[u8]) -> bool
 {
     names.iter().any(|other| name == other.as_bytes())
 }
+
+/// The same names, in memory of their own.
+pub(crate) fn copy_names(alloc: Global, names: &[String]) -> Result<Vec<String>, AllocError>
+    ensures { IfOk result (λ copies. map string_bytes copies.items ≡ map string_bytes names.now) }
+{
+    let mut copies = Vec::with_capacity(alloc, names.len())?;
+    for name in names {
+        copies.push(String::from_str(alloc, name.as_str())?)?;
+    }
+    Ok(copies)
+}

@@ -5,3 +5,4 @@ pub mod Made
 pub mod Working
 pub mod Falling
 pub mod Starts
+pub mod Agreeing

@@ -1,7 +1,8 @@
 -- What the calls of this crate answer, in the words of the definitions.
-use Rattle.std.specs.Prelude.{ℕ, ◌++◌, List, [], ◌∷◌, if◌then◌else◌}
-use Rattle.monomials.specs.Polynomials.{Polynomial}
-use Rattle.word_model.specs.Reduction.{Reduced as Reduction}
+use Rattle.std.specs.Prelude.{◌≡◌, ◌≢◌, ℕ, ◌≤◌, ◌++◌, List, [], ◌∷◌, length, Some, if◌then◌else◌}
+use Rattle.monomials.specs.Polynomials.{Polynomial, Each}
+use Rattle.monomials.specs.Leading.{leading_monomial}
+use Rattle.word_model.specs.Reduction.{element, Target, leading_target, Reduced as Reduction}
 use Rattle.word_model.specs.declared.records.Job.{Job}
 use Rattle.word_model.specs.declared.records.Job.TheVariants.{Seed, Pair, Right}
 use Rattle.word_model.specs.declared.records.TraceStep.{TraceStep}
@@ -36,3 +37,14 @@ behind_steps trace r = record { trace = trace ++ r.trace; rest = r.rest; ended =
 -- the reduction r, which s goes on from where it ended
 abbrev pub goes_on_with : Reduction → Reduction → Reduction
 goes_on_with r s = record { trace = r.trace ++ s.trace; rest = s.rest; over = s.over }
+
+-- two lists of equal length, of nonzero polynomials with the same leading monomials
+pub record SameLeads (G H : List Polynomial) : Type 0 where
+  pub long : length H ≡ length G
+  pub nonzero : (k : ℕ) → 1 ≤ k → k ≤ length G → (element G k ≢ []) × (element H k ≢ [])
+  pub leads : (k : ℕ) → 1 ≤ k → k ≤ length G → leading_monomial (element G k) ≡ leading_monomial (element H k)
+
+-- the elements that this reduction by G used are the same in H, also that of a step which is undefined
+pub record SameUsed (G H : List Polynomial) (r : Reduction) : Type 0 where
+  pub steps : Each (λ s. element G s.index ≡ element H s.index) r.trace
+  pub undefined : (t : Target) → leading_target G r.rest ≡ Some t → element G t.1 ≡ element H t.1

@@ -4,7 +4,7 @@
 ghost use Rattle.std.specs.Prelude.{◌≡◌, List, ◌++◌};
 ghost use Rattle.monomials.specs.Polynomials.{Polynomial, Each, IsPolynomial};
 ghost use Rattle.word_model.specs.Reduction.{reduce};
-ghost use Rattle.left_reduce.specs.Reductions.{goes_on_with};
+ghost use Rattle.left_reduce.specs.Reductions.{goes_on_with, SameLeads, SameUsed};
 
 use algebra::Algebra;
 
@@ -17,6 +17,18 @@ pub fn longer_lists(alg: &Algebra)
         IsPolynomial alg.now.p alg.now.order h →
         reduce alg.now (G ++ H) h
         ≡ goes_on_with (reduce alg.now G h) (reduce alg.now (G ++ H) (reduce alg.now G h).rest) }
+{
+    let _n = alg.n();
+}
+
+/// A reduction depends on the leading monomials of the elements, and on those elements that its steps
+/// use, also on that of a step which is undefined: whatever else a list of as many elements has, the
+/// reduction by it is the same.
+pub fn same_leads(alg: &Algebra)
+    ensures { (G H : List Polynomial) (h : Polynomial) →
+        Each (IsPolynomial alg.now.p alg.now.order) G → Each (IsPolynomial alg.now.p alg.now.order) H →
+        IsPolynomial alg.now.p alg.now.order h →
+        SameLeads G H → SameUsed G H (reduce alg.now G h) → reduce alg.now H h ≡ reduce alg.now G h }
 {
     let _n = alg.n();
 }

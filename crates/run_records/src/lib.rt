@@ -87,6 +87,14 @@ pub struct Spec {
     pub rest: GPoly,
 }
 
+impl Model for Spec {
+    ghost use Rattle.run_records.specs.Ahead.{ReducedStart};
+
+    ghost Value = { ReducedStart };
+
+    ghost view = { λ s. record { job = s.job; prefix = s.prefix; trace = s.trace; rest = s.rest } };
+}
+
 /// A list of polynomials that is read by numbers: a basis, or a part or a view of one. Reading
 /// takes no memory.
 pub trait Elements {

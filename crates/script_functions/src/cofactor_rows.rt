@@ -6,7 +6,7 @@ ghost use Rattle.word_model.specs.Cofactors.{cofactor_rows};
 ghost use Rattle.script_model.specs.Functions as spec;
 ghost use Rattle.script_values.specs.Gives.{Gives};
 ghost use Rattle.script_values.specs.Values.{ArePolynomials, IsValueOf};
-ghost use Rattle.script_functions.specs.LeftBases.{IsLeftBasis};
+ghost use Rattle.script_functions.specs.Inside.LeftBases.{IsLeftBasis};
 
 use crate::left_basis::{LeftBasis, left_basis};
 use crate::stopping::stop_of;

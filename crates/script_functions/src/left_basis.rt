@@ -9,7 +9,7 @@ ghost use Rattle.word_model.specs.declared.records.Outcome.TheVariants.{Finished
 ghost use Rattle.script_model.specs.Functions as spec;
 ghost use Rattle.script_values.specs.Gives.{Gives};
 ghost use Rattle.script_values.specs.Values.{ArePolynomials, IsValueOf};
-ghost use Rattle.script_functions.specs.LeftBases.{IsLeftBasis};
+ghost use Rattle.script_functions.specs.Inside.LeftBases.{IsLeftBasis};
 
 use crate::generators::joined;
 use crate::stopping::stop_of;

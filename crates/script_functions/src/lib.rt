@@ -28,6 +28,8 @@ mod normal_forms;
 mod std_lists;
 mod stopping;
 mod summary;
+#[cfg(test)]
+mod tests;
 
 /// Whether a function is built; one that is not is refused before its arguments.
 pub fn is_built(function: Function) -> bool

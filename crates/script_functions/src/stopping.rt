@@ -1,6 +1,6 @@
 //! Products that are at fault.
 
-ghost use Rattle.script_functions.specs.Faults.{IsStopOf};
+ghost use Rattle.script_functions.specs.Inside.Faults.{IsStopOf};
 
 use algebra::ProductFault;
 use script_model::values::Refusal;

@@ -1,16 +1,15 @@
 //! Algebras in three variables as texts, and polynomials as texts. A term is its number and its three exponents, as
 //! `2:1.0.0` for 2 x.
 
-ghost use Rattle.std.specs.Prelude.{◌≡◌, ◌≤◌, length, IfOk};
+ghost use Rattle.std.specs.Prelude.{◌≡◌, ◌≤◌, ◌<◌, ◌++◌, ◌∷◌, [], length, IfSome};
 ghost use Rattle.monomials.specs.Monomials.{degree};
-ghost use Rattle.monomials.specs.Polynomials.{IsPolynomial};
+ghost use Rattle.monomials.specs.Polynomials.{Each, IsPolynomial};
 
 use algebra::{Algebra, Relations};
 use gpoly::{GPoly, Term};
 use monomials::{Block, Expo, Order};
 use prime_field::Field;
-use std::alloc::{AllocError, Global};
-use std::test::Fail;
+use std::alloc::Global;
 
 // y x = x y + 1
 const WEYL_7: &str = "7|1 1 1|1:0.0.0|0:0.0.0|0:0.0.0";
@@ -25,110 +24,132 @@ const RIGHT: &str = "7|1 1 1|1:0.1.0|0:0.0.0|0:0.0.0";
 // sl2 in e, f and h: f e = e f - h, h e = e h + 2 e, h f = f h - 2 f
 const SL2: &str = "32003|1 1 1|32002:0.0.1|2:1.0.0|32001:0.1.0";
 
-/// A text as three, parted by a mark: what follows the second mark is the third.
-pub fn three<'a>(text: &'a str, mark: char) -> Result<(&'a str, &'a str, &'a str), Fail> {
-    let (first, others) = text.split_once(mark).ok_or("there are three parts")?;
-    let (second, third) = others.split_once(mark).ok_or("there are three parts")?;
-    Ok((first, second, third))
+// An exponent, up to 4095.
+fn exponent(text: Option<&str>) -> Option<u16>
+    ensures { IfSome result (λ e. e ≤ 4095) }
+{
+    let exponent = text?.parse::<u16>().ok()?;
+    if exponent > 4095 {
+        return None;
+    }
+    Some(exponent)
 }
 
-// The monomial with these exponents, up to 1365.
-fn monomial(text: &str) -> Result<Expo, Fail>
-    ensures vars { IfOk result (λ m. length m ≡ 3) }
-    ensures small { IfOk result (λ m. degree m ≤ 4095) }
+// The monomial with these exponents, of a degree up to 4095.
+fn monomial(text: &str) -> Option<Expo>
+    ensures vars { IfSome result (λ m. length m ≡ 3) }
+    ensures small { IfSome result (λ m. degree m ≤ 4095) }
 {
-    let (x, y, z) = three(text, '.')?;
-    let (x, y, z) = (x.parse::<u16>()?, y.parse::<u16>()?, z.parse::<u16>()?);
-    Ok(Expo::of(&[x.min(1365), y.min(1365), z.min(1365)]))
+    let mut parts = text.split('.');
+    let x = exponent(parts.next())?;
+    let y = exponent(parts.next())?;
+    let z = exponent(parts.next())?;
+    if x + y + z > 4095 {
+        return None;
+    }
+    Some(Expo::of(&[x, y, z]))
 }
 
 // The polynomial with one term.
-fn term(alloc: Global, field: Field, order: &Order, text: &str) -> Result<GPoly, Fail>
+fn term(alloc: Global, field: Field, order: &Order, text: &str) -> Option<GPoly>
     requires { order.now.vars ≡ 3 }
-    ensures { IfOk result (λ f. IsPolynomial field order.now f) }
+    ensures { IfSome result (λ f. IsPolynomial field order.now f) }
 {
-    let (number, exponents) = text.split_once(':').ok_or("a term has a colon")?;
-    let coef = field.from_int(number.parse::<u64>()?);
+    let (number, exponents) = text.split_once(':')?;
+    let coef = field.from_int(number.parse::<u64>().ok()?);
     let mono = monomial(exponents)?;
-    let term = GPoly::from_terms(alloc, field, order, &[Term { coef, mono }])?;
-    Ok(term)
+    GPoly::from_terms(alloc, field, order, &[Term { coef, mono }]).ok()
 }
 
 /// The sum of terms, parted by spaces.
-pub fn poly(alloc: Global, field: Field, order: &Order, text: &str) -> Result<GPoly, Fail>
+pub fn poly(alloc: Global, field: Field, order: &Order, text: &str) -> Option<GPoly>
     requires { order.now.vars ≡ 3 }
-    ensures { IfOk result (λ f. IsPolynomial field order.now f) }
+    ensures { IfSome result (λ f. IsPolynomial field order.now f) }
 {
     let mut sum = GPoly::zero(alloc);
     for piece in text.split(' ') {
         let part = term(alloc, field, order, piece)?;
-        sum = sum.add(alloc, field, order, &part)?;
+        sum = sum.add(alloc, field, order, &part).ok()?;
     }
-    Ok(sum)
+    Some(sum)
 }
 
-// The algebra with these characteristic, numbers and polynomials of the pairs (1, 2), (1, 3) and (2, 3), under dp.
-fn algebra(alloc: Global, text: &str) -> Result<Algebra, Fail>
-    ensures { IfOk result (λ a. a.order.vars ≡ 3) }
+fn push<T: Drop>(items: &mut Vec<T>, item: T) -> Option<()>
+    ensures { IfSome result (λ _. items.new.items ≡ items.old.items ++ item ∷ []) }
 {
-    let (characteristic, others) = text.split_once('|').ok_or("an algebra has five parts")?;
-    let (numbers, polynomials) = others.split_once('|').ok_or("an algebra has five parts")?;
-    let field = Field::of(characteristic.parse()?)?;
-    let order = Order::new(alloc, &[Block::DegRev { len: 3 }], 3)?;
-    let (c_12, c_13, c_23) = three(numbers, ' ')?;
-    let c = [
-        field.from_int(c_12.parse::<u64>()?),
-        field.from_int(c_13.parse::<u64>()?),
-        field.from_int(c_23.parse::<u64>()?),
-    ];
-    let (d_12, d_13, d_23) = three(polynomials, '|')?;
-    let d_12 = term(alloc, field, &order, d_12)?;
-    let d_13 = term(alloc, field, &order, d_13)?;
-    let d_23 = term(alloc, field, &order, d_23)?;
-    let c = Vec::from_array(alloc, c)?;
-    let d = Vec::from_array(alloc, [d_12, d_13, d_23]).map_err(AllocError::from)?;
-    let algebra = Algebra::new(alloc, field, order, 3, Relations { c, d })?;
-    Ok(algebra)
+    items.push(item).ok()
 }
 
-/// The algebra of this name.
-pub fn named(alloc: Global, name: &str) -> Result<Algebra, Fail>
-    ensures { IfOk result (λ a. a.order.vars ≡ 3) }
+// The numbers of a text, parted by spaces.
+fn numbers(alloc: Global, field: Field, text: &str) -> Option<Vec<u32>>
+    ensures { IfSome result (λ cs. Each (λ c. c < field) cs.items) }
 {
-    let text = match name {
+    let mut numbers = Vec::new(alloc);
+    for word in text.split(' ') {
+        let number = field.from_int(word.parse::<u64>().ok()?);
+        push(&mut numbers, number)?;
+    }
+    Some(numbers)
+}
+
+// The polynomials of a text, parted by bars.
+fn polys(alloc: Global, field: Field, order: &Order, text: &str) -> Option<Vec<GPoly>>
+    requires { order.now.vars ≡ 3 }
+    ensures { IfSome result (λ fs. Each (IsPolynomial field order.now) fs.items) }
+{
+    let mut polys = Vec::new(alloc);
+    for piece in text.split('|') {
+        let part = poly(alloc, field, order, piece)?;
+        push(&mut polys, part)?;
+    }
+    Some(polys)
+}
+
+// The algebra of this characteristic, with the numbers and polynomials of the pairs (1, 2), (1, 3) and (2, 3), under dp.
+fn algebra(alloc: Global, field: Field, relations: &str) -> Option<Algebra>
+    ensures { IfSome result (λ a. a.order.vars ≡ 3) }
+{
+    let (c, d) = relations.split_once('|')?;
+    let order = Order::new(alloc, &[Block::DegRev { len: 3 }], 3).ok()?;
+    let c = numbers(alloc, field, c)?;
+    let d = polys(alloc, field, &order, d)?;
+    if c.len() != 3 || d.len() != 3 {
+        return None;
+    }
+    Algebra::new(alloc, field, order, 3, Relations { c, d }).ok()
+}
+
+// The text of the algebra of this name.
+fn text_of(name: &str) -> &str {
+    match name {
         "weyl 7" => WEYL_7,
         "weyl 2" => WEYL_2,
         "plane" => PLANE,
         "q-weyl" => Q_WEYL,
         "right" => RIGHT,
         _ => SL2,
-    };
-    algebra(alloc, text)
+    }
+}
+
+/// The algebra of this name.
+pub fn named(alloc: Global, name: &str) -> Option<Algebra>
+    ensures { IfSome result (λ a. a.order.vars ≡ 3) }
+{
+    let (characteristic, relations) = text_of(name).split_once('|')?;
+    let field = Field::of(characteristic.parse::<u32>().ok()?).ok()?;
+    algebra(alloc, field, relations)
 }
 
 /// The polynomial ring in 16 variables, modulo 7 and under dp.
-pub fn ring_in_sixteen(alloc: Global) -> Result<Algebra, Fail>
-    ensures { IfOk result (λ a. a.order.vars ≡ 16) }
-{
-    let order = Order::new(alloc, &[Block::DegRev { len: 16 }], 16)?;
-    let algebra = Algebra::commuting(alloc, Field::of(7)?, order, 16)?;
-    Ok(algebra)
+pub fn ring_in_sixteen(alloc: Global) -> Option<Algebra> {
+    let order = Order::new(alloc, &[Block::DegRev { len: 16 }], 16).ok()?;
+    Algebra::commuting(alloc, Field::of(7).ok()?, order, 16).ok()
 }
 
-/// Terms as a text, parted by spaces.
-pub fn text_of(alloc: Global, terms: &[Term]) -> Result<String, AllocError> {
-    let mut text = String::new(alloc);
-    for term in terms {
-        if !text.is_empty() {
-            text.push(' ')?;
-        }
-        write!(text, "{}:", term.coef)?;
-        for v in 1..=term.mono.len() as u8 {
-            if v > 1 {
-                text.push('.')?;
-            }
-            write!(text, "{}", term.mono.get(v))?;
-        }
-    }
-    Ok(text)
+/// Whether a polynomial is that of a text.
+pub fn is_poly(alloc: Global, algebra: &Algebra, f: &GPoly, text: &str) -> Option<bool>
+    requires { algebra.now.order.vars ≡ 3 }
+{
+    let want = poly(alloc, algebra.field(), algebra.order(), text)?;
+    Some(f.equals(&want))
 }

@@ -13,7 +13,7 @@ use Rattle.word_model.specs.Jobs.{start_of, chain_witness}
 use Rattle.word_model.specs.Machine.{step, run_within, machine}
 use Rattle.word_model.specs.Finished.{kept, finished}
 use Rattle.word_model.specs.Cofactors.{basis_rows, cofactor_rows}
-use Rattle.word_model.specs.Scripts.{two_variables}
+use Rattle.word_model.specs.TwoVariables.{two_variables}
 use Rattle.script_model.specs.declared.values.Value.{Value}
 use Rattle.script_model.specs.declared.values.Value.TheVariants.{Poly, Ideal, Module, Matrix, Lines}
 use Rattle.script_model.specs.declared.values.Refusal.TheVariants as refused

@@ -22,7 +22,7 @@ use Rattle.plural_syntax.specs.declared.tree.Statement.{Statement}
 use Rattle.plural_syntax.specs.declared.tree.Statement.TheVariants as statement
 use Rattle.word_model.specs.Words.{normal_form, normal_form_within}
 use Rattle.word_model.specs.Products.{product}
-use Rattle.word_model.specs.Scripts.{two_variables}
+use Rattle.word_model.specs.TwoVariables.{two_variables}
 use Rattle.script_model.specs.declared.values.Value.TheVariants.{Poly}
 use Rattle.script_model.specs.declared.values.Refusal.TheVariants as refused
 use Rattle.script_model.specs.Environment.{Ring, Scope, no_rings}

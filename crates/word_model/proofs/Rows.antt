@@ -5,94 +5,12 @@ use Rattle.monomials.specs.Polynomials.{Polynomial}
 use Rattle.monomials.specs.Blocks.{dp_rows}
 use Rattle.monomials.specs.declared.order.Block.TheVariants.{DegRev}
 use Rattle.word_model.specs.Words.{Algebra, normal_form, normal_form_within, word_value}
-use Rattle.prime_field.specs.Modular.{inverse}
-use Rattle.word_model.specs.Products.{product}
-use Rattle.word_model.specs.Reduction.{steps_within, reduce, reduce_tail}
-use Rattle.word_model.specs.Jobs.{start_of, chain_witness}
-use Rattle.word_model.specs.Machine.{step, run_within, machine}
-use Rattle.word_model.specs.Finished.{finished, kept}
 use Rattle.word_model.specs.Texts.{rows_text}
 use Rattle.word_model.specs.RingTexts.{ring_text}
-use Rattle.word_model.specs.Scripts.{line_feed, two_variables, read_script}
+use Rattle.word_model.specs.TwoVariables.{two_variables}
 use Rattle.word_model.specs.Conditions.{Fault, relations_fault}
 use Rattle.word_model.specs.Conditions.Fault.{Coefficient, Profile, NonDegeneracy}
-use Rattle.word_model.specs.Answers.{answer_of, short_answer, request_answer, line}
-
--- d x = x d + 1 modulo 7
-weyl_product : answer_of [] (codes "ring r = 7,(x,d),dp;" ++ (line_feed ++ (codes "def W = nc_algebra(1,1); setring W;" ++ (line_feed ++ (codes "d*x;" ++ line_feed)))))
-    ≡ record { text = line (codes "x*d+1"); status = 0 }
-unfolding answer_of short_answer request_answer read_script product normal_form normal_form_within digits
-weyl_product = refl
-
--- d^2 x = x d^2 + 2 d modulo 2
-weyl_modulo_two : answer_of [] (codes "ring r = 2,(x,d),dp;" ++ (line_feed ++ (codes "def W = nc_algebra(1,1); setring W;" ++ (line_feed ++ (codes "d*d*x;" ++ line_feed)))))
-    ≡ record { text = line (codes "x*d^2"); status = 0 }
-unfolding answer_of short_answer request_answer read_script product normal_form normal_form_within digits
-weyl_modulo_two = refl
-
--- a quantum plane: d x^2 = 9 x^2 d modulo 7
-quantum_plane : answer_of [] (codes "ring r = 7,(x,d),dp;" ++ (line_feed ++ (codes "def W = nc_algebra(3,0); setring W;" ++ (line_feed ++ (codes "d*x*x;" ++ line_feed)))))
-    ≡ record { text = line (codes "2*x^2*d"); status = 0 }
-unfolding answer_of short_answer request_answer read_script product normal_form normal_form_within digits
-quantum_plane = refl
-
--- the left basis of x d and d^2 is d
-weyl_basis : answer_of [] (codes "ring r = 7,(x,d),dp;" ++ (line_feed ++ (codes "def W = nc_algebra(1,1); setring W;" ++ (line_feed ++ (codes "std(x*d,d*d);" ++ line_feed)))))
-    ≡ record { text = line (codes "_[1]=d"); status = 0 }
-unfolding answer_of short_answer request_answer read_script machine run_within step chain_witness start_of reduce steps_within finished kept reduce_tail product normal_form normal_form_within inverse digits
-weyl_basis = refl
-
--- x and d have coprime leading monomials, and generate everything
-weyl_unit : answer_of [] (codes "ring r = 7,(x,d),dp;" ++ (line_feed ++ (codes "def W = nc_algebra(1,1); setring W;" ++ (line_feed ++ (codes "std(x,d);" ++ line_feed)))))
-    ≡ record { text = line (codes "_[1]=1"); status = 0 }
-unfolding answer_of short_answer request_answer read_script machine run_within step chain_witness start_of reduce steps_within finished kept reduce_tail product normal_form normal_form_within inverse digits
-weyl_unit = refl
-
--- a quantum plane with d x = 3 x d: the generators as monic elements, ascending
-quantum_basis : answer_of [] (codes "ring r = 7,(x,d),dp;" ++ (line_feed ++ (codes "def W = nc_algebra(3,0); setring W;" ++ (line_feed ++ (codes "std(d*x,d*d);" ++ line_feed)))))
-    ≡ record { text = line (codes "_[1]=d^2") ++ line (codes "_[2]=x*d"); status = 0 }
-unfolding answer_of short_answer request_answer read_script machine run_within step chain_witness start_of reduce steps_within finished kept reduce_tail product normal_form normal_form_within inverse digits
-quantum_basis = refl
-
--- 4 is not in the table
-no_characteristic : answer_of [] (codes "ring r = 4,(x,d),dp;" ++ (line_feed ++ (codes "def W = nc_algebra(1,1); setring W;" ++ (line_feed ++ (codes "d*x;" ++ line_feed)))))
-    ≡ record { text = line (codes "? line 1: Characteristic 4"); status = 1 }
-unfolding answer_of short_answer read_script digits
-no_characteristic = refl
-
--- 7 is zero modulo 7
-zero_factor : answer_of [] (codes "ring r = 7,(x,d),dp;" ++ (line_feed ++ (codes "def W = nc_algebra(7,1); setring W;" ++ (line_feed ++ (codes "d*x;" ++ line_feed)))))
-    ≡ record { text = line (codes "? line 2: Coefficient 1 2"); status = 3 }
-unfolding answer_of short_answer read_script digits
-zero_factor = refl
-
--- nor is there a basis modulo 4
-no_characteristic_of_basis : answer_of [] (codes "ring r = 4,(x,d),dp;" ++ (line_feed ++ (codes "def W = nc_algebra(1,1); setring W;" ++ (line_feed ++ (codes "std(x*d,d*d);" ++ line_feed)))))
-    ≡ record { text = line (codes "? line 1: Characteristic 4"); status = 1 }
-unfolding answer_of short_answer read_script digits
-no_characteristic_of_basis = refl
-
--- or with a zero number
-zero_factor_of_basis : answer_of [] (codes "ring r = 7,(x,d),dp;" ++ (line_feed ++ (codes "def W = nc_algebra(14,1); setring W;" ++ (line_feed ++ (codes "std(x*d,d*d);" ++ line_feed)))))
-    ≡ record { text = line (codes "? line 2: Coefficient 1 2"); status = 3 }
-unfolding answer_of short_answer read_script digits
-zero_factor_of_basis = refl
-
--- a basis of nothing is no script
-no_form_of_basis : answer_of [] (codes "ring r = 7,(x,d),dp;" ++ (line_feed ++ (codes "def W = nc_algebra(1,1); setring W;" ++ (line_feed ++ (codes "std();" ++ line_feed)))))
-    ≡ record { text = line (codes "? Form"); status = 1 }
-unfolding answer_of read_script
-no_form_of_basis = refl
-
--- no script
-no_form : answer_of [] [] ≡ record { text = line (codes "? Form"); status = 1 }
-unfolding answer_of read_script
-no_form = refl
-
--- a word on the command line
-refused_word : answer_of (codes "x" ∷ []) [] ≡ record { text = line (codes "? Words, expected [--pairs N] [--make K]"); status = 2 }
-unfolding answer_of
-refused_word = refl
+use Rattle.word_model.specs.Answers.{line}
 
 -- ---- conditions on relations
 

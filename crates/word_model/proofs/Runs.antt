@@ -6,7 +6,7 @@ use Rattle.monomials.specs.Polynomials.{Polynomial}
 use Rattle.monomials.specs.Blocks.{dp_rows}
 use Rattle.word_model.specs.Words.{Algebra, normal_form, normal_form_within}
 use Rattle.word_model.specs.Products.{product}
-use Rattle.word_model.specs.Scripts.{two_variables}
+use Rattle.word_model.specs.TwoVariables.{two_variables}
 use Rattle.word_model.specs.Reduction.{steps_within, reduce, reduce_tail}
 use Rattle.word_model.specs.Jobs.{start_of, chain_witness, job_sugar, element_sugar}
 use Rattle.word_model.specs.Finished.{finished, kept}

@@ -5,7 +5,7 @@ use Rattle.monomials.specs.Polynomials.{Polynomial, Each, IsPolynomial, cons_non
 use Rattle.word_model.specs.Words.{Algebra, d_of, IsSmall, RewritesDown}
 use Rattle.word_model.specs.Conditions.{Fault, is_below, pair_fault, relations_fault, NonZero, IsField, IsAlgebraData, IsGAlgebra}
 use Rattle.word_model.specs.Conditions.Fault.{Coefficient, Profile}
-use Rattle.word_model.specs.Scripts.{two_variables}
+use Rattle.word_model.specs.TwoVariables.{two_variables}
 use Rattle.word_model.proofs.Acceptance.{accepted}
 use Rattle.word_model.proofs.Faults.{relations_fault-none}
 

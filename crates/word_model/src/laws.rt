@@ -10,7 +10,7 @@ ghost use Rattle.monomials.specs.Leading.{leading_monomial};
 ghost use Rattle.word_model.specs.Conditions.{Fault, pair_fault, triple_fault, triple_rest, first_from, relations_fault, NonZero, IsField, HasNonzeroNumbers, IsAlgebraData, IsGAlgebra};
 ghost use Rattle.word_model.specs.Products.{product, letters_product, times_letters, in_reach};
 ghost use Rattle.word_model.specs.Reduction.{is_within};
-ghost use Rattle.word_model.specs.Scripts.{two_variables};
+ghost use Rattle.word_model.specs.TwoVariables.{two_variables};
 
 /// The number of a pair is its place in lexicographic order: the first pair has the number 0, and each
 /// pair the number after that of the one before, whose row it shares or ends.

@@ -16,7 +16,7 @@ use Rattle.word_model.proofs.Letters.{Each-map, Each-both, length-word_from, mon
 use Rattle.word_model.proofs.Descents.{leftmost_descent-sorted_word}
 use Rattle.word_model.proofs.Divisions.{length-minus}
 use Rattle.word_model.proofs.Termination.{IsLess, measure, normal_form-sorted}
-use Rattle.word_model.proofs.NormalForms.{word_weight, weigh-word_value, word_value_is_polynomial, normal_form_is_polynomial, same_weights}
+use Rattle.word_model.proofs.NormalForms.{word_weight, word_weight-sorted, weigh-word_value, word_value_is_polynomial, normal_form_is_polynomial, same_weights}
 use Rattle.word_model.proofs.Confluence.{word_weight-inside}
 use Rattle.gproduct.specs.declared.front.Crossing.{Crossing}
 use Rattle.gproduct.specs.Inside.Factors.{stacked_word, HaveVars, ProductSum, words_of, IsReady, AreTerms, IsCrossing, between, IsExchange}
@@ -114,11 +114,6 @@ module _ (A : Algebra) (l : ℕ) where
       omega (arith, sum_measure-append rest put, sum_measure-append rest (t ∷ []))
 
 -- ---- swaps
-
--- a monomial weighs what its sorted word does
-pub word_weight-sorted : (A : Algebra) (φ : Monomial → ℕ) (m : Monomial) → length m ≡ A.order.vars → word_weight A φ (sorted_word m) ≡ φ m
-word_weight-sorted A φ m vars =
-    ap (weigh φ) (normal_form-sorted A (sorted_word m) (leftmost_descent-sorted_word m)) ∙ omega (arith, ap φ (monomial_of-sorted_word A.order.vars m vars))
 
 module _ (A : Algebra) (x : Crossing) (h : IsCrossing A.order.vars x) (tail : List Monomial) (tail_vars : HaveVars A.order.vars tail)
     (a b : ℕ) (ha : a ≤ get_or x.left (x.high - 1) 0) (hb : b ≤ get_or x.right (x.low - 1) 0) where

@@ -11,12 +11,11 @@ use Rattle.word_model.specs.Words.{Algebra, Word, IsWord, word_from, sorted_word
 use Rattle.word_model.specs.Conditions.{IsGAlgebra}
 use Rattle.word_model.specs.Products.{product}
 use Rattle.word_model.proofs.Letters.{Each-map, IsWord-sorted_word, length-word_from}
-use Rattle.word_model.proofs.NormalForms.{word_weight, row_weight, weigh-word_value, weigh-product, word_value_is_polynomial, product_is_polynomial, same_weights}
+use Rattle.word_model.proofs.NormalForms.{word_weight, word_weight-sorted, row_weight, weigh-word_value, weigh-product, word_value_is_polynomial, product_is_polynomial, same_weights}
 use Rattle.word_model.proofs.Degrees.{HasDegrees-poly_degree, poly_degree-le, poly_degree-product}
 use Rattle.word_model.proofs.Associativity.{last_part}
 use Rattle.gproduct.specs.Inside.Factors.{ProductSum, words_of, IsReady}
 use Rattle.gproduct.proofs.SortedWords.{length-power, sorted_word-power}
-use Rattle.gproduct.proofs.MultipliedOut.{word_weight-sorted}
 
 -- m before each term of f
 abbrev pub before_each : Monomial → Polynomial → ProductSum

@@ -16,6 +16,7 @@ use Rattle.gpoly.specs.Terms.{pair_of, pairs_of}
 use Rattle.gpoly.proofs.TermLists.{numbers_at, vars_at}
 use Rattle.word_model.specs.Words.{Algebra}
 use Rattle.word_model.specs.Products.{product, in_reach}
+use Rattle.algebra.proofs.Letterwise.{degree_at}
 use Rattle.word_model.proofs.NormalForms.{row_weight, weigh-product, product_is_polynomial, same_weights}
 use Rattle.gproduct.specs.Inside.Parts.{sum_of, AreSorted}
 
@@ -117,12 +118,6 @@ product_more A above_one parts part g ts i t inside is hs hp sum this =
 pub nothing_times : (A : Algebra) (g : Polynomial) → product A [] g ≡ []
 unfolding product
 nothing_times A g = refl
-
--- the degree of a term at an index
-pub degree_at : (ts : List Term) (i : ℕ) (d : Term) → i < length ts → degree (get_or ts i d).mono ≤ poly_degree (pairs_of ts)
-degree_at [] i d l = absurd (omega arith)
-degree_at (t ∷ ts) zero d l = omega arith
-degree_at (t ∷ ts) (suc i) d l = omega (arith, degree_at ts i d (omega arith))
 
 -- what is known of a term at an index
 pub term_at : (p n : ℕ) (ts : List Term) (i : ℕ) (t : Term) → i < length ts → t ≡ get_or ts i t → HasNumbers p (pairs_of ts) → HasVars n (pairs_of ts)

@@ -4,7 +4,8 @@ use Rattle.std.proofs.Math.ListN.{length-set, length-replicate}
 use Rattle.monomials.specs.Monomials.{degree}
 use Rattle.monomials.proofs.Keys.{Each-append}
 use Rattle.word_model.specs.Words.{Word, IsWord, count_of, counts_from, monomial_of, sorted_word}
-use Rattle.word_model.proofs.Letters.{count_of-append, count_of-same, count_of-other, degree-monomial_of}
+use Rattle.word_model.proofs.Letters.{count_of-append, count_of-replicate, count_of-other, degree-monomial_of}
+use Rattle.algebra.proofs.Counting.{counts_all}
 use Rattle.word_model.proofs.Sorted.{sorted_word-monomial_of}
 use Rattle.closed_forms.proofs.Passing.{power_is_word, sorted_xy}
 
@@ -13,12 +14,7 @@ same_or_other a b = grind arith
 
 -- ---- letters
 
--- a power has as many letters as its exponent says
-count_of-power : (v e : ℕ) → count_of v (replicate e v) ≡ e
-count_of-power v zero = refl
-count_of-power v (suc e) = count_of-same v (replicate e v) ∙ ap suc (count_of-power v e)
-
--- and no other
+-- a power has no other letter than its own
 count_of-other_power : (v x e : ℕ) → v ≢ x → count_of v (replicate e x) ≡ 0
 count_of-other_power v x zero other = refl
 count_of-other_power v x (suc e) other = count_of-other v x (replicate e x) other ∙ count_of-other_power v x e other
@@ -30,18 +26,6 @@ get_or-zeros zero v = refl
 get_or-zeros (suc n) zero = refl
 get_or-zeros (suc n) (suc v) = get_or-zeros n v
 
--- the counts of all letters are the monomial's exponents
-counts_all : (n i : ℕ) (counts : List ℕ) (w : Word) → n ≤ length counts
-    → ((v : ℕ) → v < length counts → get_or counts v 0 ≡ count_of (i + v) w) → take n counts ≡ counts_from i n w
-counts_all zero i counts w few h = refl
-counts_all (suc n) i [] w few h = absurd (omega arith)
-counts_all (suc n) i (x ∷ counts) w few h =
-    let here : i + 0 ≡ i = omega arith in
-    let first : x ≡ count_of i w = h 0 (omega arith) ∙ ap (λ k. count_of k w) here in
-    let rest : take n counts ≡ counts_from (suc i) n w =
-    counts_all n (suc i) counts w (omega arith)
-    (λ v less. let there : i + suc v ≡ suc i + v = omega arith in h (suc v) (omega arith) ∙ ap (λ k. count_of k w) there) in
-    λ k. first k ∷ rest k
 
 module _ (i j x y : ℕ) (low : 1 ≤ i) (ij : i < j) where
   -- the word of the two powers
@@ -66,7 +50,7 @@ module _ (i j x y : ℕ) (low : 1 ≤ i) (ij : i < j) where
           let letter : suc v ≡ j = omega arith in
           let set_is : get_or (exponents n) v 0 ≡ y =
           ap (λ k. get_or (exponents n) k 0) is ∙ get_or-set_same (set (replicate {A = ℕ} n 0) (i - 1) x) (j - 1) y 0 (omega (arith, long)) in
-          let here : count_of (suc v) (replicate y j) ≡ y = ap (λ k. count_of (suc v) (replicate y k)) (sym letter) ∙ count_of-power (suc v) y in
+          let here : count_of (suc v) (replicate y j) ≡ y = ap (λ k. count_of (suc v) (replicate y k)) (sym letter) ∙ count_of-replicate (suc v) y in
           omega (arith, set_is, parts, here, count_of-other_power (suc v) i x (omega arith))
       by (inr far) (inl is) =
           let letter : suc v ≡ i = omega arith in
@@ -74,7 +58,7 @@ module _ (i j x y : ℕ) (low : 1 ≤ i) (ij : i < j) where
           get_or-set_other (set (replicate {A = ℕ} n 0) (i - 1) x) (j - 1) v y 0 far
           ∙ ap (λ k. get_or (set (replicate {A = ℕ} n 0) (i - 1) x) k 0) is
           ∙ get_or-set_same (replicate {A = ℕ} n 0) (i - 1) x 0 (omega (arith, length-replicate {A = ℕ} n 0)) in
-          let here : count_of (suc v) (replicate x i) ≡ x = ap (λ k. count_of (suc v) (replicate x k)) (sym letter) ∙ count_of-power (suc v) x in
+          let here : count_of (suc v) (replicate x i) ≡ x = ap (λ k. count_of (suc v) (replicate x k)) (sym letter) ∙ count_of-replicate (suc v) x in
           omega (arith, set_is, parts, here, count_of-other_power (suc v) j y (omega arith))
       by (inr far) (inr other) =
           let set_is : get_or (exponents n) v 0 ≡ 0 =

@@ -12,7 +12,8 @@ use Rattle.word_model.specs.Words.{Algebra}
 use Rattle.word_model.specs.Products.{product}
 use Rattle.gproduct.specs.Inside.Factors.{factor_count}
 use Rattle.gproduct.specs.Inside.Parts.{sum_of, AreSorted}
-use Rattle.gproduct.proofs.Sums.{product_more, nothing_times, degree_at}
+use Rattle.algebra.proofs.Letterwise.{degree_at}
+use Rattle.gproduct.proofs.Sums.{product_more, nothing_times}
 use Rattle.gproduct.proofs.products.times_within.Goals as goal
 
 pub loop-term-init : goal.loop-term-init

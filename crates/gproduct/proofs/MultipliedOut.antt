@@ -12,10 +12,9 @@ use Rattle.monomials.proofs.Keys.{Each-append, Each-first, Each-second, Each-wea
 use Rattle.monomials.proofs.OrderLaws.{order_cmp_tied}
 use Rattle.word_model.specs.Words.{Algebra, Word, WordSum, IsWord, sorted_word, normal_form, word_value}
 use Rattle.word_model.specs.Conditions.{IsGAlgebra}
-use Rattle.word_model.proofs.Letters.{Each-map, Each-both, length-word_from, monomial_of-sorted_word}
-use Rattle.word_model.proofs.Descents.{leftmost_descent-sorted_word}
+use Rattle.word_model.proofs.Letters.{Each-map, Each-both, length-word_from}
 use Rattle.word_model.proofs.Divisions.{length-minus}
-use Rattle.word_model.proofs.Termination.{IsLess, measure, normal_form-sorted}
+use Rattle.word_model.proofs.Termination.{IsLess, measure}
 use Rattle.word_model.proofs.NormalForms.{word_weight, word_weight-sorted, weigh-word_value, word_value_is_polynomial, normal_form_is_polynomial, same_weights}
 use Rattle.word_model.proofs.Confluence.{word_weight-inside}
 use Rattle.gproduct.specs.declared.front.Crossing.{Crossing}

@@ -26,7 +26,6 @@ get_or-zeros zero v = refl
 get_or-zeros (suc n) zero = refl
 get_or-zeros (suc n) (suc v) = get_or-zeros n v
 
-
 module _ (i j x y : ℕ) (low : 1 ≤ i) (ij : i < j) where
   -- the word of the two powers
   abbrev both : Word

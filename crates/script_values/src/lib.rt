@@ -18,3 +18,6 @@ pub use environment::Environment;
 pub use ring::Ring;
 pub use scope::Scope;
 pub use stop::Stop;
+
+#[cfg(test)]
+mod tests;

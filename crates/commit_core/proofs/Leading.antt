@@ -1,5 +1,5 @@
 -- A lead and the machine: the turn of each state that a lead is at, and where the lead is after it.
-use Rattle.std.proofs.Common.{◌≡◌, ℕ, suc, ◌+◌, ◌*◌, ◌<◌, ◌≤◌, nat_le, ◌||◌, ◌⊎◌, inl, inr, Bool, true, false, List, [], ◌∷◌, ◌++◌, length, map, drop, Option, Some, None, IfSome, Ok, if◌then◌else◌, refl, sym, ap, ◌∙◌, subst, arith, length-append}
+use Rattle.std.proofs.Common.{◌≡◌, ℕ, suc, ◌+◌, ◌-◌, ◌*◌, ◌<◌, ◌≤◌, nat_le, ◌||◌, ◌⊎◌, inl, inr, Bool, true, false, List, [], ◌∷◌, ◌++◌, length, map, drop, Option, Some, None, IfSome, Ok, if◌then◌else◌, refl, sym, ap, ◌∙◌, subst, arith, length-append}
 use Rattle.std.proofs.lemmas.Bool.Decides.{nat_tests}
 use Rattle.prime_field.specs.Modular.{inverse}
 use Rattle.monomials.specs.Polynomials.{Polynomial, Each, IsPolynomial, poly_scale}
@@ -10,8 +10,8 @@ use Rattle.monomials.specs.Leading.{leading_coefficient}
 use Rattle.word_model.specs.Words.{Algebra}
 use Rattle.word_model.specs.Conditions.{IsGAlgebra}
 use Rattle.word_model.specs.Reduction.{Reduced as Reduction, reduce}
-use Rattle.word_model.specs.Jobs.{same_job, is_queued, without, job_sugar, element_sugar, least_job, chain_witness, AreSugars, UsesElements}
-use Rattle.word_model.specs.Machine.{State, On, Over, turn_of_job, with_element, jobs_of, most_elements, seeds_from, first_state, IsElement, IsState}
+use Rattle.word_model.specs.Jobs.{same_job, is_queued, without, job_sugar, element_sugar, least_job, chain_witness, AreSugars}
+use Rattle.word_model.specs.Machine.{State, On, Over, Journal, turn_of_job, with_entry, with_element, jobs_of, most_elements, seeds_from, first_state, IsElement, IsState}
 use Rattle.word_model.specs.declared.records.Job.{Job}
 use Rattle.word_model.specs.declared.records.Job.TheVariants.{Seed, Pair, Right}
 use Rattle.word_model.specs.declared.records.Mode.{Mode}
@@ -20,19 +20,18 @@ use Rattle.word_model.specs.declared.records.Entry.TheVariants.{New}
 use Rattle.word_model.specs.declared.records.Outcome.{Outcome}
 use Rattle.word_model.specs.declared.records.Outcome.TheVariants.{Finished, BudgetSpent, BasisFull}
 use Rattle.word_model.proofs.JobLists.{same_job-is, same_job-itself}
-use Rattle.word_model.specs.declared.records.TraceStep.{TraceStep}
 use Rattle.word_model.proofs.Steps.{first_state-is, step-keeps}
-use Rattle.word_model.proofs.Sugars.{reduce-uses}
 use Rattle.pair_strategy.specs.Queues.{JobQueue, jobs_in, IsRising, IsQueue, IsSet, HasKey, SameJobs}
 use Rattle.pair_strategy.specs.declared.keys.Keyed.{Keyed}
 use Rattle.pair_strategy.proofs.Least.{Each-queued}
-use Rattle.left_reduce.specs.Reductions.{GoneOn, behind_steps}
-use Rattle.commit_core.specs.Leads.{Run, IsLead, IsAt, IsCommit, AreLow, keyed}
+use Rattle.commit_core.specs.Leads.{Run, IsLead, IsAt, IsCommit, IsPart, AreLow, keyed, run_journal}
 use Rattle.commit_core.specs.Named.{IsNamed}
-use Rattle.commit_core.specs.Kept.{Turns, IsKeptRun}
+use Rattle.commit_core.specs.Kept.{Turns, IsKeptRun, run_from}
 use Rattle.commit_core.specs.declared.lead.Committed.TheVariants.{Added}
-use Rattle.commit_core.proofs.Bringing.{queued-append}
-use Rattle.commit_core.proofs.Turning.{step-finished, step-spent, step-job, with_element-is}
+use Rattle.commit_core.proofs.Bringing.{queued-append, Each-rest}
+use Rattle.commit_core.proofs.Turning.{step-finished, step-spent, step-job, with_element-is, run-goes_on, run-first}
+use Rattle.commit_core.proofs.Growing.{run-part}
+use Rattle.commit_core.proofs.Running.{run-over}
 
 -- ---- sets of jobs
 
@@ -52,11 +51,11 @@ Each-at P (first ∷ jobs) job h e = by (same_job job first) refl e (Each-at P j
 pub Each-same : (P : Job → Type 0) (jobs others : List Job) → SameJobs jobs others → Each P jobs → Each P others
 Each-same P jobs others same h = Each-queued P others (λ job e. Each-at P jobs job h (same job ∙ e))
 
-no_jobs : (jobs : List Job) → SameJobs jobs [] → jobs ≡ []
+pub no_jobs : (jobs : List Job) → SameJobs jobs [] → jobs ≡ []
 no_jobs [] same = refl
 no_jobs (job ∷ jobs) same = let no : true ≡ false = sym (queued-first job jobs) ∙ same job in cc
 
-some_jobs : (jobs : List Job) (job : Job) (rest : List Job) → SameJobs jobs (job ∷ rest) → (a : Job) × (queue : List Job) × (jobs ≡ a ∷ queue)
+pub some_jobs : (jobs : List Job) (job : Job) (rest : List Job) → SameJobs jobs (job ∷ rest) → (a : Job) × (queue : List Job) × (jobs ≡ a ∷ queue)
 some_jobs [] job rest same = let no : false ≡ true = same job ∙ queued-first job rest in cc
 some_jobs (a ∷ queue) job rest same = (a, queue, refl)
 
@@ -190,7 +189,9 @@ pub lead-on : (A : Algebra) (gens : List Polynomial) (mode : Mode) (budget : ℕ
 lead-on A gens mode budget o s t q new ok going lead commit order queue keys low =
     let next = commit.2 s (at_itself A gens mode budget o s) in
     let is : IsState A gens next.0 = step-keeps A ok gens lead.sorted mode budget s next.0 lead.state next.1 in
+    let reached = commit.2 lead.history.0 lead.history.1 in
     record {
+      history = (reached.0, reached.2, lead.history.2 ∙ run-goes_on A gens mode budget lead.history.0 reached.0 reached.1);
       sorted = lead.sorted;
       few = lead.few;
       state = state_same next.0 next.2 is;
@@ -209,6 +210,49 @@ lead-on A gens mode budget o s t q new ok going lead commit order queue keys low
       jobs = subst (λ (G : List Polynomial). Each (IsNamed A gens G) t.queue) at.basis (Each-same (IsNamed A gens x.basis) x.queue t.queue at.jobs is.jobs);
     }
 
+-- the jobs behind the first one
+behind_first : (P : Job → Type 0) (items : List Keyed) → Each P (jobs_in items) → Each P (jobs_in (drop 1 items))
+behind_first P [] h = h
+behind_first P (k ∷ items) h = h.1
+
+-- after a job that left with an entry alone the lead is one
+pub lead-enters : (A : Algebra) (gens : List Polynomial) (mode : Mode) (budget : ℕ) (o : Option Outcome) (s t : State) (q new : JobQueue) (job : Job) (rest : List Job) (entry : Entry) → o ≡ None
+    → Taking → IsSet (jobs_in q.items) → IsKeptRun (run_at A gens mode budget o s) q → s.queue ≡ job ∷ rest → Turns (run_at A gens mode budget o s) (λ x. On (with_entry x job entry))
+    → t.entries ≡ s.entries ++ entry ∷ [] → t.basis ≡ s.basis → t.sugars ≡ s.sugars → new.order ≡ q.order → new.items ≡ drop 1 q.items → t.queue ≡ jobs_in new.items
+    → IsKeptRun (run_at A gens mode budget o t) new
+lead-enters A gens mode budget o s t q new job rest entry going taking set lead first turn entries basis sugars order items queue = record {
+  sorted = lead.sorted;
+  few = lead.few;
+  state = record {
+    elements = subst (Each (IsElement A)) (sym basis) lead.state.elements;
+    few = omega (arith, ap length basis, lead.state.few);
+    sugars = subst (λ (G : List Polynomial). AreSugars G t.sugars) (sym basis) (subst (AreSugars s.basis) (sym sugars) lead.state.sugars);
+    jobs = subst (λ (G : List Polynomial). Each (IsNamed A gens G) t.queue) (sym basis) (subst (Each (IsNamed A gens s.basis)) (sym left)
+        (behind_first (IsNamed A gens s.basis) q.items (subst (Each (IsNamed A gens s.basis)) lead.jobs lead.state.jobs)));
+  };
+  order = order ∙ lead.order;
+  jobs = queue;
+  keys = subst (λ (G : List Polynomial). Each (HasKey A gens G t.sugars) new.items) (sym basis)
+      (subst (λ (n : List ℕ). Each (HasKey A gens s.basis n) new.items) (sym sugars)
+      (subst (Each (HasKey A gens s.basis s.sugars)) (sym items) (Each-rest (HasKey A gens s.basis s.sugars) q.items lead.keys)));
+  low = subst (AreLow 1) (sym sugars) lead.low;
+  over = subst (λ (x : Option Outcome). IfSome x (λ outcome. Turns (run_at A gens mode budget o t) (λ y. Over outcome))) (sym going) tt;
+  history = (
+    with_entry lead.history.0 job entry,
+    record {
+      entries = ap (λ e. e ++ entry ∷ []) lead.history.1.entries ∙ sym entries;
+      basis = lead.history.1.basis ∙ sym basis;
+      sugars = lead.history.1.sugars ∙ sym sugars;
+      jobs = subst (SameJobs (without job lead.history.0.queue)) (sym left)
+          (left_jobs taking q.items lead.history.0.queue rest job set (subst (SameJobs lead.history.0.queue) lead.jobs lead.history.1.jobs) (sym lead.jobs ∙ first));
+    },
+    lead.history.2 ∙ run-goes_on A gens mode budget lead.history.0 (with_entry lead.history.0 job entry) (turn lead.history.0 lead.history.1),
+  );
+}
+  where
+    left : t.queue ≡ jobs_in (drop 1 q.items)
+    left = queue ∙ ap jobs_in items
+
 -- a lead that ends
 pub lead-ends : (A : Algebra) (gens : List Polynomial) (mode : Mode) (budget : ℕ) (o : Option Outcome) (s : State) (q : JobQueue) (outcome : Outcome)
     → IsKeptRun (run_at A gens mode budget o s) q → Turns (run_at A gens mode budget o s) (λ x. Over outcome) → IsKeptRun (run_at A gens mode budget (Some outcome) s) q
@@ -221,13 +265,16 @@ lead-ends A gens mode budget o s q outcome lead turn = record {
   keys = lead.keys;
   low = lead.low;
   over = λ x at. turn x (record { entries = at.entries; basis = at.basis; sugars = at.sugars; jobs = at.jobs });
+  history =
+      let at = lead.history.1 in
+      (lead.history.0, record { entries = at.entries; basis = at.basis; sugars = at.sugars; jobs = at.jobs }, lead.history.2);
 }
 
 -- a lead at the first state
 pub lead-first : (A alg : Algebra) (gens given : List Polynomial) (mode : Mode) (budget : ℕ) (s : State) (q : JobQueue) → A ≡ alg → gens ≡ given → IsGAlgebra alg
-    → Each (IsPolynomial alg.p alg.order) given → length given ≤ 4096 → s.basis ≡ [] → s.sugars ≡ [] → SameJobs (seeds_from 1 given) s.queue
+    → Each (IsPolynomial alg.p alg.order) given → length given ≤ 4096 → s.entries ≡ [] → s.basis ≡ [] → s.sugars ≡ [] → SameJobs (seeds_from 1 given) s.queue
     → q.order ≡ alg.order → s.queue ≡ jobs_in q.items → Each (HasKey alg given [] []) q.items → IsKeptRun (run_at A gens mode budget None s) q
-lead-first A alg gens given mode budget s q made copied ok sorted few empty none seeds order queue keys =
+lead-first A alg gens given mode budget s q made copied ok sorted few fresh empty none seeds order queue keys =
     subst (λ (x : Algebra). IsKeptRun (run_at x gens mode budget None s) q) (sym made) (
     subst (λ (x : List Polynomial). IsKeptRun (run_at alg x mode budget None s) q) (sym copied) record {
       sorted = sorted;
@@ -243,6 +290,11 @@ lead-first A alg gens given mode budget s q made copied ok sorted few empty none
       keys = subst (λ (G : List Polynomial). Each (HasKey alg given G s.sugars) q.items) (sym empty) (subst (λ (n : List ℕ). Each (HasKey alg given [] n) q.items) (sym none) keys);
       low = subst (AreLow 1) (sym none) tt;
       over = tt;
+      history = (
+        first_state given,
+        record { entries = sym fresh; basis = sym empty; sugars = sym none; jobs = seeds },
+        run-first alg given mode budget (first_state given) refl,
+      );
     }
     )
   where
@@ -277,6 +329,30 @@ keyed-jobs A gens G sugars (k ∷ items) keys =
     with_parts : ℕ → Monomial → Keyed
     with_parts n m = record { sugar = n; mono = m; job = k.job }
 
+-- what a run that is over did is the machine's journal
+pub kept-over : (run : Run) (q : JobQueue) (outcome : Outcome) → IsKeptRun run q → run.outcome ≡ Some outcome
+    → ◌≡◌ {A = Journal} (record { entries = run.entries; basis = run.basis; outcome = outcome }) (run_journal run)
+kept-over run q outcome kept is =
+    let h = kept.history in
+    let turn : Turns run (λ s. Over outcome) = subst (λ (o : Option Outcome). IfSome o (λ x. Turns run (λ s. Over x))) is kept.over in
+    run-over run run outcome (record { algebra = refl; generators = refl; mode = refl; budget = refl }) turn h.0 h.1 ∙ sym h.2
+
+-- what a run did is the beginning of it
+kept-part : (run : Run) (q : JobQueue) → IsKeptRun run q → IsPart run.entries run.basis run.outcome (run_journal run)
+kept-part run q kept = record { entries = front.entries; basis = front.basis; over = by run.outcome refl }
+  where
+    front : IsPart run.entries run.basis None (run_journal run)
+    front =
+        let h = kept.history in
+        subst (λ (j : Journal). IsPart run.entries run.basis None j) (sym h.2)
+        (subst (λ (e : List Entry). IsPart e run.basis None (run_from run h.0)) h.1.entries
+        (subst (λ (G : List Polynomial). IsPart h.0.entries G None (run_from run h.0)) h.1.basis
+        (run-part run.algebra run.generators run.mode run.budget (suc (run.budget - length h.0.entries)) h.0)))
+
+    by : (o : Option Outcome) → run.outcome ≡ o → IfSome o (λ x. run_journal run ≡ record { entries = run.entries; basis = run.basis; outcome = x })
+    by None e = tt
+    by (Some x) e = sym (kept-over run q x kept e)
+
 pub lead-is : (run : Run) (q : JobQueue) → IsKeptRun run q → IsQueue q → IsLead run
 lead-is run q kept is = record {
   generators = kept.sorted;
@@ -288,6 +364,7 @@ lead-is run q kept is = record {
   jobs = kept.state.jobs;
   set = subst IsSet (sym kept.jobs) is.set;
   rising = subst (IsRising run.algebra.order) (sym same) (subst (λ (o : RowOrder). IsRising o q.items) kept.order is.rising);
+  part = kept-part run q kept;
 }
   where
     same : map (keyed run.algebra run.generators run.basis run.sugars) run.jobs ≡ q.items
@@ -317,13 +394,6 @@ admitted-sugars A gens mode budget o s q job entry element sugar ok lead turn =
     let next : IsState A gens (admits mode A.order.vars job entry element sugar s) =
     step-keeps A ok gens lead.sorted mode budget s (admits mode A.order.vars job entry element sugar s) lead.state (turn s (at_itself A gens mode budget o s)) in
     next.sugars
-
--- the steps by which a start is reduced use elements that there are
-pub uses-elements : (run : Run) (B : Algebra) (G : List Polynomial) (h : Polynomial) (before : List TraceStep) (r : GoneOn) → G ≡ run.basis → before ≡ []
-    → r ≡ behind_steps before (reduce B G h) → UsesElements (length run.basis) r.trace
-uses-elements run B G h before r basis none is =
-    let same : r ≡ behind_steps [] (reduce B run.basis h) = is ∙ (λ t. behind_steps (none t) (reduce B (basis t) h)) in
-    subst (λ (x : GoneOn). UsesElements (length run.basis) x.trace) (sym same) (reduce-uses B run.basis h)
 
 -- a job that is no pair has no witness
 pub no-witness : (G : List Polynomial) (jobs : List Job) (job : Job) → ((s : ℕ) × (job ≡ Seed s)) ⊎ ((i : ℕ) × (v : ℕ) × (job ≡ Right i v)) → None ≡ chain_witness G jobs job

@@ -1,5 +1,7 @@
-mod Turning
-mod Bringing
+pub mod Turning
+pub mod Bringing
 mod Seeding
-mod Leading
-mod Running
+pub mod Growing
+pub mod Leading
+pub mod Running
+pub mod Continuing

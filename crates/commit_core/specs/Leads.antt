@@ -1,11 +1,11 @@
 -- A lead: a run of the machine that one thread goes on with, a step at a time.
-use Rattle.std.specs.Prelude.{◌≡◌, ℕ, suc, ◌+◌, ◌*◌, ◌≤◌, ◌∷◌, [], List, length, map, Option, Some, Ok, Err}
+use Rattle.std.specs.Prelude.{◌≡◌, ℕ, suc, ◌+◌, ◌*◌, ◌≤◌, ◌++◌, ◌∷◌, [], List, length, map, Option, Some, IfSome, Ok, Err}
 use Rattle.std.specs.declared.alloc.AllocError.{AllocError}
 use Rattle.std.specs.declared.result.Result.{Result}
 use Rattle.monomials.specs.Polynomials.{Polynomial, Each, IsPolynomial}
 use Rattle.word_model.specs.Words.{Algebra}
 use Rattle.word_model.specs.Jobs.{job_sugar, key_monomial, AreSugars}
-use Rattle.word_model.specs.Machine.{State, Turn, On, Over, step, IsElement, most_elements}
+use Rattle.word_model.specs.Machine.{State, Turn, On, Over, Journal, step, machine, IsElement, most_elements}
 use Rattle.word_model.specs.declared.records.Job.{Job}
 use Rattle.word_model.specs.declared.records.Mode.{Mode}
 use Rattle.word_model.specs.declared.records.Entry.{Entry}
@@ -13,7 +13,6 @@ use Rattle.word_model.specs.declared.records.Entry.TheVariants.{Skipped, Zero, N
 use Rattle.word_model.specs.declared.records.Outcome.{Outcome}
 use Rattle.pair_strategy.specs.Queues.{SameJobs, IsRising, IsSet}
 use Rattle.pair_strategy.specs.declared.keys.Keyed.{Keyed}
-use Rattle.left_reduce.specs.Reductions.{start_count}
 use Rattle.commit_core.specs.Named.{IsNamed}
 use Rattle.commit_core.specs.declared.lead.Committed.{Committed}
 use Rattle.commit_core.specs.declared.lead.Committed.TheVariants.{Added, Over as Ended}
@@ -40,10 +39,21 @@ abbrev pub AreLow : ℕ → List ℕ → Type 0
 AreLow k [] = Unit {0}
 AreLow k (n ∷ sugars) = (n ≤ 4095 + 8190 * k) × AreLow (suc k) sugars
 
+-- These entries and elements are the first ones of the journal, and where they have an outcome, they are the journal.
+pub record IsPart (done : List Entry) (found : List Polynomial) (outcome : Option Outcome) (journal : Journal) : Type 0 where
+  pub entries : (more : List Entry) × (journal.entries ≡ done ++ more)
+  pub basis : (more : List Polynomial) × (journal.basis ≡ found ++ more)
+  pub over : IfSome outcome (λ o. journal ≡ record { entries = done; basis = found; outcome = o })
+
+-- the journal of the machine that the run is of
+abbrev pub run_journal : Run → Journal
+run_journal run = machine run.algebra run.generators run.mode run.budget
+
 -- What every lead has. The generators are polynomials of the algebra, at most 4096, and the elements are nonzero
 -- polynomials of it, at most as many as a basis may have. Each has a sugar, which is at least its degree, and for the
 -- k-th at most 4095 + 8190 k. Each job that waits names a nonzero generator, or nonzero elements and variables that there
--- are; no job waits twice, and they stand in rising order of their keys.
+-- are; no job waits twice, and they stand in rising order of their keys. What the lead did is the beginning of the
+-- machine's journal, and all of it where the lead is over.
 pub record IsLead (run : Run) : Type 0 where
   pub generators : Each (IsPolynomial run.algebra.p run.algebra.order) run.generators
   pub few_generators : length run.generators ≤ 4096
@@ -54,6 +64,7 @@ pub record IsLead (run : Run) : Type 0 where
   pub jobs : Each (IsNamed run.algebra run.generators run.basis) run.jobs
   pub set : IsSet run.jobs
   pub rising : IsRising run.algebra.order (map (keyed run.algebra run.generators run.basis run.sugars) run.jobs)
+  pub part : IsPart run.entries run.basis run.outcome (run_journal run)
 
 -- the run is at this state of the machine: its entries, its basis with its sugars, and the same jobs, in whatever order
 -- the state has them
@@ -85,8 +96,10 @@ IsCommit old new (Ok (Ended outcome)) =
     ((s : State) → IsAt old s → run_step old s ≡ Over outcome) × (new ≡ record old { outcome = Some outcome })
 IsCommit old new (Err e) = new ≡ old
 
--- how many products make an entry: those of its start, and one for each step
-abbrev pub entry_count : Entry → ℕ
-entry_count (Skipped job by) = 0
-entry_count (Zero job trace) = start_count job + length trace
-entry_count (New job trace scale) = start_count job + length trace
+-- ---- entries
+
+-- the job that an entry tells of
+abbrev pub job_of : Entry → Job
+job_of (Skipped job by) = job
+job_of (Zero job trace) = job
+job_of (New job trace scale) = job

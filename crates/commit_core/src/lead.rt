@@ -1,17 +1,19 @@
 //! The lead: a run of the machine, which one thread goes on with a commit at a time.
 
-ghost use Rattle.std.specs.Prelude.{◌≡◌, ◌≢◌, suc, ◌+◌, ◌*◌, ◌<◌, ◌≤◌, ◌++◌, ◌∷◌, [], List, nat_le, if◌then◌else◌, IfOk, IfSome, MatchOption, Ok, Some, None, IsSome, length, take};
+ghost use Rattle.std.specs.Prelude.{◌≡◌, ◌≢◌, suc, ◌+◌, ◌*◌, ◌<◌, ◌≤◌, ◌++◌, ◌∷◌, [], List, nat_le, if◌then◌else◌, IfOk, OnOk, IfSome, MatchOption, Ok, Err, Some, None, IsSome, length, take};
 ghost use Rattle.monomials.specs.Polynomials.{Each, IsPolynomial};
 ghost use Rattle.word_model.specs.Jobs.{job_sugar, element_sugar, least_job, start_of, chain_witness, without, UsesElements};
-ghost use Rattle.word_model.specs.Machine.{State, On, Over, IsElement, first_state, with_entry, with_element, jobs_of, turn_of_start, turn_of_rest, most_elements};
+ghost use Rattle.word_model.specs.Machine.{State, On, Over, IsElement, first_state, machine, with_entry, with_element, jobs_of, turn_of_start, turn_of_rest, most_elements};
 ghost use Rattle.word_model.specs.declared.records.Job.{Job};
 ghost use Rattle.word_model.specs.declared.records.Entry.{Entry};
 ghost use Rattle.word_model.specs.declared.records.Outcome.{Outcome};
 ghost use Rattle.word_model.specs.declared.records.Outcome.TheVariants.{BasisFull};
 ghost use Rattle.gproduct.specs.Seats.{Keeps};
-ghost use Rattle.left_reduce.specs.Reductions.{start_count, ended_of};
+ghost use Rattle.left_reduce.specs.Reductions.{ended_of};
 ghost use Rattle.commit_core.specs.Named.{IsNamed};
-ghost use Rattle.commit_core.specs.Leads.{IsLead, IsAt, IsCommit, entry_count};
+ghost use Rattle.commit_core.specs.Leads.{IsLead, IsAt, IsCommit};
+ghost use Rattle.commit_core.specs.Specs.{IsGood, IsCounted, steps_of, start_left};
+ghost use Rattle.commit_core.specs.Begun.{IsBegun, Records};
 ghost use Rattle.commit_core.specs.Kept.{Turns, reduction_of};
 ghost use Rattle.commit_core.specs.declared.lead.Committed.TheVariants.{Added, Over as Ended};
 
@@ -40,7 +42,8 @@ pub enum Committed {
 }
 
 /// A run of the machine over generators of its own copy. It holds no reference: which algebra it was
-/// made over it keeps for contracts alone, and each commit is lent a seat of that algebra.
+/// made over it keeps for contracts alone, and each commit is lent a seat of that algebra. Whatever
+/// it did is the beginning of the machine's journal.
 #[derive(Drop)]
 pub struct Lead {
     algebra: Snapshot<Algebra>,
@@ -163,6 +166,7 @@ impl Lead {
         requires over { IsSome self.outcome }
         ensures value { (outcome : Outcome) → self.outcome ≡ Some outcome →
             result ≡ record { entries = self.entries; basis = self.basis; outcome = outcome } }
+        ensures machine { result ≡ machine self.algebra self.generators self.mode self.budget }
         ensures elements { Each (IsElement self.algebra) result.basis }
         ensures few { length result.basis ≤ most_elements }
     {
@@ -179,9 +183,11 @@ impl Lead {
         }
     }
 
-    /// One step of the machine. `seat` is one of the lead's algebra, and `spec` is `None` for now.
-    /// The counter rises by the products of an entry that was added. Once the run is over, each
-    /// further commit answers the same outcome and changes nothing. A commit for which memory is
+    /// One step of the machine, the same with a Spec and without. `seat` is one of the lead's
+    /// algebra. A Spec is of the first job and good for the lead: the reduction goes on from where it
+    /// ended. Of an entry that was added, the counter rises by the products of its start, unless that
+    /// was made ahead, and by one for each step that the Spec does not have. Once the run is over,
+    /// each further commit answers the same outcome and changes nothing. A commit for which memory is
     /// wanting leaves the lead as it was.
     pub fn commit<L: Ledger>(
         &mut self,
@@ -191,17 +197,17 @@ impl Lead {
         steps: &mut Steps<L>,
     ) -> Result<Committed, AllocError>
         requires algebra { seat.old.algebra ≡ self.old.algebra }
-        requires no_spec { spec ≡ None }
+        requires first { IfSome spec (λ s. (rest : List Job) × (self.old.jobs ≡ s.job ∷ rest)) }
+        requires good { IfSome spec (IsGood self.old.algebra self.old.generators self.old.basis) }
         ensures step { IsCommit self.old self.new result }
         ensures over { (outcome : Outcome) → self.old.outcome ≡ Some outcome →
             (result ≡ Ok (Ended outcome)) × (self.new ≡ self.old) }
         ensures counted { result ≡ Ok Added → (entry : Entry) →
-            self.new.entries ≡ self.old.entries ++ entry ∷ [] → steps.new ≡ steps.old + entry_count entry }
+            self.new.entries ≡ self.old.entries ++ entry ∷ [] → IsCounted spec entry steps.old steps.new }
         ensures seat_algebra { seat.new.algebra ≡ seat.old.algebra }
         ensures kept { Keeps seat.old seat.new }
     {
         pair_strategy::laws::queues_are_sets();
-        let _none = spec;
         if let Some(outcome) = self.outcome {
             return Ok(Committed::Over(outcome));
         }
@@ -214,7 +220,7 @@ impl Lead {
         }
         match self.witness(&job) {
             Some(by) => self.enter(job, Entry::Skipped { job, by }),
-            None => self.reduce_job(alloc, seat, job, steps),
+            None => self.reduce_job(alloc, seat, job, spec, steps),
         }
     }
 
@@ -267,29 +273,66 @@ impl Lead {
         alloc: Global,
         seat: &mut TableSeat,
         job: Job,
+        spec: Option<Spec>,
         steps: &mut Steps<L>,
     ) -> Result<Committed, AllocError>
         requires algebra { seat.old.algebra ≡ self.old.algebra }
         requires going { self.old.outcome ≡ None }
         requires first { (rest : List Job) × (self.old.jobs ≡ job ∷ rest) }
+        requires spec { IfSome spec (λ s. (s.job ≡ job) × IsGood self.old.algebra self.old.generators self.old.basis s) }
         requires turn { Turns self.old (λ s.
             turn_of_start self.old.algebra self.old.generators self.old.mode s job (start_of self.old.algebra self.old.generators s.basis job)) }
         ensures step { IsCommit self.old self.new result }
         ensures counted { result ≡ Ok Added → (entry : Entry) →
-            self.new.entries ≡ self.old.entries ++ entry ∷ [] → steps.new ≡ steps.old + entry_count entry }
+            self.new.entries ≡ self.old.entries ++ entry ∷ [] → IsCounted spec entry steps.old steps.new }
         ensures seat_algebra { seat.new.algebra ≡ seat.old.algebra }
         ensures kept { Keeps seat.old seat.new }
     {
         let alg = seat.algebra();
-        let basis = &self.progress.basis;
-        let start = match start_of(alloc, seat, basis, &self.generators, &job, steps) {
-            Ok(start) => start,
+        let (h, trace) = match self.begin(alloc, seat, job, spec, steps) {
+            Ok(begun) => begun,
             Err(ProductFault::DegreeOver) => return Ok(self.end(Outcome::DegreeOver)),
             Err(ProductFault::Memory) => return Err(AllocError),
         };
-        let basis = &self.progress.basis;
-        let reduced = reduce_from(alloc, seat, basis, start, Trace::new(alloc), steps)?;
+        let reduced = reduce_from(alloc, seat, &self.progress.basis, h, trace, steps)?;
         self.enter_reduced(alloc, alg, job, reduced)
+    }
+
+    // Where the reduction of the first job begins, and the steps before that: its start, or where its
+    // Spec ended.
+    fn begin<L: Ledger>(
+        &self,
+        alloc: Global,
+        seat: &mut TableSeat,
+        job: Job,
+        spec: Option<Spec>,
+        steps: &mut Steps<L>,
+    ) -> Result<(GPoly, Trace), ProductFault>
+        requires algebra { seat.old.algebra ≡ self.now.algebra }
+        requires named { IsNamed self.now.algebra self.now.generators self.now.basis job }
+        requires spec { IfSome spec (λ s. (s.job ≡ job) × IsGood self.now.algebra self.now.generators self.now.basis s) }
+        ensures value { IfOk result (λ r. IsBegun self.now.algebra self.now.generators self.now.basis job r.0 r.1) }
+        ensures trace { IfOk result (λ r. r.1 ≡ steps_of spec) }
+        ensures sorted { IfOk result (λ r. IsPolynomial self.now.algebra.p self.now.algebra.order r.0) }
+        ensures over { result ≡ Err ProductFault.DegreeOver →
+            start_of self.now.algebra self.now.generators self.now.basis job ≡ None }
+        ensures counted { OnOk result (steps.new ≡ steps.old + start_left spec job) }
+        ensures algebra { seat.new.algebra ≡ seat.old.algebra }
+        ensures kept { Keeps seat.old seat.new }
+    {
+        let _n = seat.algebra().n();
+        self.facts();
+        match spec {
+            Some(spec) => {
+                let Spec { trace, rest, .. } = spec;
+                Ok((rest, trace))
+            }
+            None => {
+                let basis = &self.progress.basis;
+                let start = start_of(alloc, seat, basis, &self.generators, &job, steps)?;
+                Ok((start, Trace::new(alloc)))
+            }
+        }
     }
 
     // The turn of the first job, whose start was reduced.
@@ -310,7 +353,7 @@ impl Lead {
             turn_of_rest self.old.algebra self.old.generators self.old.mode s job (reduction_of reduced)) }
         ensures step { IsCommit self.old self.new result }
         ensures entry { result ≡ Ok Added → (entry : Entry) × (self.new.entries ≡ self.old.entries ++ entry ∷ [])
-            × (entry_count entry ≡ start_count job + length reduced.trace) }
+            × Records entry job reduced.trace }
     {
         match reduced.ended {
             left_reduce::Ended::DegreeOver => Ok(self.end(Outcome::DegreeOver)),
@@ -340,7 +383,7 @@ impl Lead {
             else On (with_element self.old.algebra self.old.generators self.old.mode s job (reduction_of reduced))) }
         ensures step { IsCommit self.old self.new result }
         ensures entry { result ≡ Ok Added → (entry : Entry) × (self.new.entries ≡ self.old.entries ++ entry ∷ [])
-            × (entry_count entry ≡ start_count job + length reduced.trace) }
+            × Records entry job reduced.trace }
     {
         let _n = alg.n();
         if self.progress.basis.len() >= MOST_ELEMENTS {

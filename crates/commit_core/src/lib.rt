@@ -2,10 +2,10 @@
 //! thread.
 #![tactic(auto)]
 
-ghost use Rattle.std.specs.Prelude.{◌≡◌, suc, ◌-◌, ◌<◌, None, IfOk, length};
-ghost use Rattle.word_model.specs.Machine.{State, run_within};
-ghost use Rattle.commit_core.specs.Leads.{IsAt};
+ghost use Rattle.std.specs.Prelude.{◌≡◌, ◌<◌, None, IfOk};
+ghost use Rattle.word_model.specs.Machine.{machine};
 
+pub use ahead::spec_over;
 use algebra::Algebra;
 use gpoly::GPoly;
 use gproduct::{Steps, Table, TableSeat};
@@ -15,6 +15,7 @@ use std::alloc::{AllocError, Global};
 use std::marker::Brand;
 use std::sync::ledger::{Blank, Ledger};
 
+mod ahead;
 mod lead;
 mod progress;
 #[cfg(test)]
@@ -63,9 +64,7 @@ fn led<L: Ledger>(
     requires name { blank.name ≡ L.name }
     requires parts { blank.parts ≡ L.parts }
     requires some { 0 < blank.parts }
-    ensures { IfOk result (λ journal. (s : State) → IsAt lead s →
-        journal ≡ run_within lead.algebra lead.generators lead.mode lead.budget
-        (suc (lead.budget - length s.entries)) s) }
+    ensures { IfOk result (λ journal. journal ≡ machine lead.algebra lead.generators lead.mode lead.budget) }
 {
     let mut steps: Steps<L> = Steps::start(blank);
     let mut lead = lead;

@@ -1,8 +1,8 @@
 use Rattle.std.proofs.Common.{Ok, sym, ap, ◌∙◌, subst, arith}
-use Rattle.commit_core.specs.Leads.{Run, IsCommit}
+use Rattle.commit_core.specs.Leads.{Run, IsCommit, run_journal}
 use Rattle.commit_core.specs.declared.lead.Committed.{Committed}
 use Rattle.commit_core.specs.declared.lead.Committed.TheVariants.{Added, Over as Ended}
-use Rattle.commit_core.proofs.Running.{same-run, run-on, run-over, commit-adds}
+use Rattle.commit_core.proofs.Running.{same-run, same-journal, commit-adds}
 use Rattle.commit_core.proofs.led.Goals as goal
 
 pub loop-lead-smaller : goal.loop-lead-smaller
@@ -22,22 +22,11 @@ loop-lead-preserved g c =
       algebra = c.commit.ensures.seat_algebra ∙ is.algebra ∙ sym added.0.algebra;
       going = added.1 ∙ is.going;
       same = same-run c.args.lead old c.commit.new.self is.same added.0;
-      run = λ first at. (
-          let here = is.run first at in
-          let next = run-on c.args.lead old c.commit.new.self is.same added here.0 here.1 in
-          (next.0, next.1, here.2 ∙ next.2)
-          );
     }
 
 pub returns-in-Over : goal.returns-in-Over
-returns-in-Over g c = λ s at. (
+returns-in-Over g c =
     let old : Run = c.loop-lead.lead in
-    let outcome = c.in-Over.field-0 in
-    let over : IsCommit old c.commit.new.self (Ok (Ended outcome)) =
+    let over : IsCommit old c.commit.new.self (Ok (Ended c.in-Over.field-0)) =
     subst (λ (r : Committed). IsCommit old c.commit.new.self (Ok r)) c.in-Over.is c.in_ok-commit.ensures.step in
-    let here = c.loop-lead.invariant.run s at in
-    c.into_journal.ensures.value outcome (ap (λ (run : Run). run.outcome) over.1)
-    ∙ ap (λ (run : Run). record { entries = run.entries; basis = run.basis; outcome = outcome }) over.1
-    ∙ run-over c.args.lead old outcome c.loop-lead.invariant.same over.0 here.0 here.1
-    ∙ sym here.2
-    )
+    c.into_journal.ensures.machine ∙ ap run_journal over.1 ∙ same-journal c.args.lead old c.loop-lead.invariant.same

@@ -1,28 +1,26 @@
-use Rattle.std.proofs.Common.{sym, subst}
+use Rattle.std.proofs.Common.{sym, ◌∙◌, subst}
 use Rattle.std.proofs.lemmas.Result.{IfOk-weaker}
 use Rattle.word_model.specs.Bases.{RunLaws}
-use Rattle.commit_core.proofs.Running.{run-machine}
+use Rattle.commit_core.specs.Leads.{Run}
+use Rattle.commit_core.proofs.Running.{same-journal}
 use Rattle.commit_core.proofs.OneWorkerEngine.basis.Goals as goal
 
 pub returns-clause-value : goal.returns-clause-value
 returns-clause-value c =
     let lead = c.in_ok-lead.lead in
     let is = c.in_ok-lead.ensures in
+    let given : Run = record lead { algebra = c.args.alg.now; generators = c.args.gens.now; mode = c.args.mode; budget = c.args.budget } in
     IfOk-weaker c.led.result _ _
-    (run-machine lead c.args.alg.now c.args.gens.now c.args.mode c.args.budget
-    (record { algebra = is.algebra; generators = is.generators; mode = is.mode; budget = is.budget }) is.state) c.led.ensures
+    (λ j made. made ∙ same-journal given lead (record { algebra = is.algebra; generators = is.generators; mode = is.mode; budget = is.budget })) c.led.ensures
 
 pub returns-clause-run : goal.returns-clause-run
 returns-clause-run c =
     let lead = c.in_ok-lead.lead in
     let is = c.in_ok-lead.ensures in
-    let A = c.args.alg.now in
-    let gens = c.args.gens.now in
-    let mode = c.args.mode in
-    IfOk-weaker c.led.result _ (RunLaws A mode gens)
+    let given : Run = record lead { algebra = c.args.alg.now; generators = c.args.gens.now; mode = c.args.mode; budget = c.args.budget } in
+    IfOk-weaker c.led.result _ (RunLaws c.args.alg.now c.args.mode c.args.gens.now)
     (λ j made.
-    subst (RunLaws A mode gens)
-    (sym (run-machine lead A gens mode c.args.budget
-    (record { algebra = is.algebra; generators = is.generators; mode = is.mode; budget = is.budget }) is.state j made))
-    (c.runs_have_laws.ensures mode c.args.budget))
+    subst (RunLaws c.args.alg.now c.args.mode c.args.gens.now)
+    (sym (made ∙ same-journal given lead (record { algebra = is.algebra; generators = is.generators; mode = is.mode; budget = is.budget })))
+    (c.runs_have_laws.ensures c.args.mode c.args.budget))
     c.led.ensures

@@ -1,5 +1,5 @@
 -- What the command words of a program say.
-use Rattle.std.specs.Prelude.{ℕ, ◌+◌, ◌==◌, nat_le, nat_lt, not, ◌&&◌, Bool, true, false, if◌then◌else◌, List, [], ◌∷◌, length, take, drop, Option, Some, None, is_some, codes, unwrap_or, option_and_then}
+use Rattle.std.specs.Prelude.{ℕ, ◌+◌, ◌≤◌, ◌==◌, nat_le, nat_lt, not, ◌&&◌, Bool, true, false, if◌then◌else◌, List, [], ◌∷◌, length, take, drop, Option, Some, None, is_some, codes, unwrap_or, option_and_then, IfSome}
 use lib.Pointwise.{pointwise}
 use lib.Dec.{eqb}
 use Rattle.std.specs.List.{prefix_len}
@@ -74,3 +74,11 @@ nothing_read = record { workers = None; pairs = None; make = None; wants = None 
 
 abbrev pub settings_of : Program → List (List ℕ) → Option Settings
 settings_of program words = option_and_then (λ r. settled r) (read_on program nothing_read words)
+
+-- the ranges of the settings
+pub record AreInRange (s : Settings) : Type 0 where
+  pub some_worker : 1 ≤ s.workers
+  pub workers : s.workers ≤ 64
+  pub some_pair : 1 ≤ s.pairs
+  pub pairs : s.pairs ≤ 1000000
+  pub make : IfSome s.make (λ k. k ≤ 999999999)

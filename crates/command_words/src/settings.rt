@@ -1,6 +1,6 @@
 //! What the command words of a program say.
 
-ghost use Rattle.std.specs.Prelude.{◌≡◌, map, string_bytes};
+ghost use Rattle.std.specs.Prelude.{◌≡◌, map, string_bytes, IfSome};
 ghost use Rattle.command_words.specs.Settings as spec;
 
 use crate::options::{Reading, read_word};
@@ -26,7 +26,8 @@ pub struct Settings {
 /// What the words say, or None where they are refused: `--workers N`, `--pairs N` and `--make N` in any order,
 /// each at most once, a value also behind `=`, and only a program with threads takes `--workers`.
 pub fn read_words(words: &[String], program: Program) -> Option<Settings>
-    ensures { result ≡ spec.settings_of program (map string_bytes words.now) }
+    ensures value { result ≡ spec.settings_of program (map string_bytes words.now) }
+    ensures in_range { IfSome result spec.AreInRange }
 {
     let mut reading = Reading {
         workers: None,

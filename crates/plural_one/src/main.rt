@@ -1,11 +1,7 @@
-//! Reads a script of three lines on standard input, and prints the product or the basis that it
-//! asks for.
+//! Evaluates the script on standard input, or one that is made from a number, and prints its text.
 #![tactic(auto)]
 
-mod basis;
-mod product;
 mod run;
-mod script;
 
 use plural_io::{StdSink, StdSource};
 use run::{NO_MEMORY, run_one};

@@ -1,3 +1,4 @@
 pub mod Arguments
 pub mod OptionNames
 pub mod Turns
+mod Answered

@@ -1,6 +1,7 @@
 //! Evaluates scripts.
 #![tactic(auto)]
 
+mod answering;
 mod assignments;
 mod declarations;
 mod evaluation;
@@ -12,5 +13,6 @@ mod rings;
 mod session;
 mod statements;
 
+pub use answering::{MOST_BYTES, answer, too_long};
 pub use evaluation::eval;
 pub use reply::Reply;

@@ -1,9 +1,0 @@
-use Rattle.std.proofs.Common.{◌≡◌, ◌^◌, ◌<◌, take}
-use Rattle.word_model.specs.Scripts.{digits_value}
-use Rattle.plural_one.proofs.script.value_of.Given as goal
-
-abbrev pub invariant-loop-digit : goal.invariant-loop-digit
-invariant-loop-digit l = record {
-  value : l.value ≡ digits_value (take l.digit-index l.digits);
-  small : l.value < 10 ^ l.digit-index;
-}

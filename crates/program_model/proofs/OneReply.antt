@@ -3,7 +3,6 @@ use Rattle.std.proofs.Common.{◌≡◌, ℕ, ◌≤◌, List, Option, Some, Non
 use Rattle.case_maker.specs.Scripts.{made_script}
 use Rattle.command_words.specs.declared.settings.Program.{Program}
 use Rattle.command_words.specs.declared.settings.Settings.{Settings}
-use Rattle.command_words.specs.Settings.{settings_of}
 use Rattle.word_model.specs.Answers.{Answer}
 use Rattle.script_model.specs.Scripts.{IsAnswer}
 use Rattle.script_model.proofs.OneAnswer.{one_answer}

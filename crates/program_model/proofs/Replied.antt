@@ -1,5 +1,5 @@
 -- How a run comes to its reply, and how it ends with one.
-use Rattle.std.proofs.Common.{◌≡◌, ℕ, ◌≤◌, Bool, true, false, List, [], Option, Some, None, take, refl, sym, ap, subst, ◌∙◌}
+use Rattle.std.proofs.Common.{◌≡◌, ℕ, ◌≤◌, true, false, List, [], Option, Some, None, take, refl, sym, ap, subst, ◌∙◌}
 use Rattle.case_maker.specs.Scripts.{made_script}
 use Rattle.command_words.specs.declared.settings.Program.{Program}
 use Rattle.command_words.specs.declared.settings.Settings.{Settings}
@@ -8,7 +8,7 @@ use Rattle.plural_io.specs.Faults.{Rose}
 use Rattle.plural_io.specs.Reads.{behind_all}
 use Rattle.word_model.specs.Answers.{Answer}
 use Rattle.script_model.specs.Scripts.{IsAnswer}
-use Rattle.program_model.specs.Replies.{IsReply, refused, made, read, words_answer, asks_source, reads_source}
+use Rattle.program_model.specs.Replies.{refused, made, read, words_answer, asks_source, reads_source}
 use Rattle.program_model.specs.Runs.{SourceSeen, SinkSeen, IsReadOut, HasRead, IsReplied, IsUndisturbed, whole, IsRun, write_failed}
 use Rattle.program_model.proofs.OneReply.{reply-status}
 

@@ -1,5 +1,5 @@
 -- What a program replies to its command words and the bytes of its source.
-use Rattle.std.specs.Prelude.{◌≡◌, ℕ, Bool, true, false, not, is_some, Option, Some, None, List, ◌++◌, codes}
+use Rattle.std.specs.Prelude.{◌≡◌, ℕ, Bool, false, not, is_some, Option, Some, None, List, ◌++◌, codes}
 use Rattle.command_words.specs.declared.settings.Program.{Program}
 use Rattle.command_words.specs.declared.settings.Program.TheVariants.{Threads, One}
 use Rattle.command_words.specs.declared.settings.Settings.{Settings}

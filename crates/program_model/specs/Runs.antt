@@ -27,23 +27,22 @@ abbrev pub HasRead : Bool → List ℕ → SourceSeen → SourceSeen → Type 0
 HasRead true bytes source source' = IsReadOut bytes source source'
 HasRead false bytes source source' = source' ≡ source
 
-module _ (program : Program) (words : List (List ℕ)) (source source' : SourceSeen) where
-  -- a reply to the words and to what was read
-  pub record IsReplied (a : Answer) : Type 0 where
-    pub bytes : List ℕ
-    pub read : HasRead (reads_source program words) bytes source source'
-    pub reply : IsReply program words bytes a
+-- a reply to the words and to what was read
+pub record IsReplied (program : Program) (words : List (List ℕ)) (source source' : SourceSeen) (a : Answer) : Type 0 where
+  pub bytes : List ℕ
+  pub read : HasRead (reads_source program words) bytes source source'
+  pub reply : IsReply program words bytes a
 
-  module _ (sink sink' : SinkSeen) where
-    -- A run that no read and no write disturbed: the whole text was written, and its status is answered; or memory was
-    -- wanting, and nothing was written.
-    pub data IsUndisturbed : ℕ → Type 0 where
-      whole : (a : Answer) → IsReplied a → sink'.held ≡ behind_all sink.held a.text → IsUndisturbed a.status
-      no_memory : sink' ≡ sink → IsUndisturbed 7
+-- A run that no read and no write disturbed: the whole text was written, and its status is answered; or memory was
+-- wanting, and nothing was written.
+pub data IsUndisturbed (program : Program) (words : List (List ℕ)) (source source' : SourceSeen) (sink sink' : SinkSeen) : ℕ → Type 0 where
+  whole : (a : Answer) → IsReplied program words source source' a → sink'.held ≡ behind_all sink.held a.text → IsUndisturbed program words source source' sink sink' a.status
+  no_memory : sink' ≡ sink → IsUndisturbed program words source source' sink sink' 7
 
-    -- A run of the program, with its status. It is undisturbed; or a read failed, and nothing was written;
-    -- or a write failed, and what was written begins the text.
-    pub data IsRun : ℕ → Type 0 where
-      undisturbed : (status : ℕ) → IsUndisturbed status → IsRun status
-      read_failed : IsTrue (reads_source program words) → Rose source.faults source'.faults → sink' ≡ sink → IsRun 5
-      write_failed : (a : Answer) (n : ℕ) → IsReplied a → Rose sink.faults sink'.faults → sink'.held ≡ behind_all sink.held (take n a.text) → IsRun 6
+-- A run of the program, with its status. It is undisturbed; or a read failed, and nothing was written;
+-- or a write failed, and what was written begins the text.
+pub data IsRun (program : Program) (words : List (List ℕ)) (source source' : SourceSeen) (sink sink' : SinkSeen) : ℕ → Type 0 where
+  undisturbed : (status : ℕ) → IsUndisturbed program words source source' sink sink' status → IsRun program words source source' sink sink' status
+  read_failed : IsTrue (reads_source program words) → Rose source.faults source'.faults → sink' ≡ sink → IsRun program words source source' sink sink' 5
+  write_failed : (a : Answer) (n : ℕ) → IsReplied program words source source' a → Rose sink.faults sink'.faults
+      → sink'.held ≡ behind_all sink.held (take n a.text) → IsRun program words source source' sink sink' 6

@@ -129,11 +129,7 @@ fn reply_to_made(alloc: Global, number: u32, pairs: u32) -> Result<Reply, AllocE
 }
 
 // The reply to the script that the source has left.
-fn reply_to_source<S: Source>(
-    alloc: Global,
-    source: &mut S,
-    pairs: u32,
-) -> Result<Reply, Stopped>
+fn reply_to_source<S: Source>(alloc: Global, source: &mut S, pairs: u32) -> Result<Reply, Stopped>
     requires { 1 ≤ pairs }
     ensures reply { IfOk result (λ reply. (bytes : List ℕ) × IsReadOut bytes
         (record { left = S.left source.old; faults = S.faults source.old })

@@ -1,5 +1,5 @@
 -- What bytes are answered.
-use Rattle.std.proofs.Common.{◌≡◌, ℕ, ◌≤◌, List, length,  Result, Ok, Err, IfOk, refl, sym, subst}
+use Rattle.std.proofs.Common.{◌≡◌, ℕ, ◌≤◌, List, length, Result, Ok, Err, IfOk, refl, sym, subst}
 use Rattle.std.proofs.lemmas.Result.{IfOk-weaker}
 use Rattle.plural_lexer.specs.declared.token.Token.{Token}
 use Rattle.plural_lexer.specs.declared.fault.LexFault.{LexFault}

@@ -1,4 +1,4 @@
-use Rattle.std.proofs.Common.{◌≡◌, ℕ, Err, List, map, take, string_bytes, sym, ap, ◌∙◌, arith}
+use Rattle.std.proofs.Common.{Err, map, take, string_bytes, ap, ◌∙◌, arith}
 use Rattle.command_words.specs.declared.settings.Program.TheVariants.{One}
 use Rattle.plural_io.specs.Reads.{behind_all}
 use Rattle.word_model.specs.Answers.{Answer}

@@ -10,3 +10,6 @@ mod relations;
 
 pub use commuting::new_ring;
 pub use relations::nc_ring;
+
+#[cfg(test)]
+mod tests;

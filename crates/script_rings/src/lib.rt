@@ -4,6 +4,7 @@
 mod blocks;
 mod commuting;
 mod entries;
+pub mod laws;
 mod names;
 mod pairs;
 mod relations;

@@ -93,12 +93,14 @@ fn ring_of(alloc: Global, statement: &str) -> Result<Result<Ring, Stop>, Fail> {
     let bytes = bytes_of(alloc, statement)?;
     let script = script_of(alloc, &bytes)?;
     match script.statements.as_slice().first() {
-        Some(Statement::Ring {
-            characteristic,
-            vars,
-            order,
-            ..
-        }) => {
+        Some(
+            Statement::Ring {
+                characteristic,
+                vars,
+                order,
+                ..
+            },
+        ) => {
             let vars = vars.get();
             if !are_names(&bytes, vars) {
                 return Err("variables have names".into());

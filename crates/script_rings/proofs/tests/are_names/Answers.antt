@@ -9,6 +9,7 @@ use Rattle.script_rings.proofs.tests.are_names.Goals as goal
 pub returns-then-is_name : goal.returns-then-is_name
 returns-then-is_name c = λ h.
     let bytes = c.args.bytes.now in
-    subst (λ (v : Vars). Each IsName (spec.names_of bytes v)) (sym c.in-Many.is)
-    (subst IsName c.text-in-Many.ensures (c.is_name-in-Many.ensures c.if-is_name.true),
-    subst (λ ms. Each IsName (map (text_of bytes) (map (λ a. a.token) ms))) c.as_slice.ensures (c.more_names.ensures h))
+    subst (λ (v : Vars). Each IsName (spec.names_of bytes v)) (sym c.in-Many.is) (
+      subst IsName c.text-in-Many.ensures (c.is_name-in-Many.ensures c.if-is_name.true),
+      subst (λ ms. Each IsName (map (text_of bytes) (map (λ a. a.token) ms))) c.as_slice.ensures (c.more_names.ensures h),
+    )

@@ -6,3 +6,4 @@ pub mod PairLists
 pub mod NewRelations
 pub mod EntryLists
 pub mod FaultRests
+pub mod PairPlaces

@@ -4,9 +4,13 @@
 mod blocks;
 mod commuting;
 mod entries;
+pub mod laws;
 mod names;
 mod pairs;
 mod relations;
 
 pub use commuting::new_ring;
 pub use relations::nc_ring;
+
+#[cfg(test)]
+mod tests;

@@ -3,7 +3,6 @@
 ghost use Rattle.std.specs.Prelude.{◌≡◌, IfOk};
 ghost use Rattle.monomials.specs.Polynomials.{Each, IsPolynomial};
 ghost use Rattle.word_model.specs.Words.{Algebra};
-ghost use Rattle.script_model.specs.Operations.{poly_of as poly_of_value};
 ghost use Rattle.script_model.specs.Expressions as spec;
 ghost use Rattle.script_model.specs.Statements as statement;
 ghost use Rattle.script_values.specs.Gives.{Gives};
@@ -16,6 +15,7 @@ use plural_syntax::{Added, Base, Expr, ExprList, Factor, Function, Power, Scaled
 use run_records::Engine;
 use script_functions::{apply, is_built};
 use script_model::values::{Refusal, Value};
+use script_values::assigning::poly_of;
 use script_values::names::named;
 use script_values::tokens::{is_minus, number};
 use script_values::{Scope, Stop, operations};
@@ -283,17 +283,6 @@ fn integer(scope: &Scope, token: &Token) -> Result<Value, Stop>
     let number = number(scope.bytes, token);
     let f = operations::constant(scope.alloc, scope.ring.algebra(), number)?;
     Ok(Value::Poly(f))
-}
-
-// The polynomial that a value is.
-fn poly_of(value: Value) -> Result<GPoly, Stop>
-    ensures value { Gives result (poly_of_value value) }
-    ensures of_ring { (A : Algebra) → IsValueOf A value → IfOk result (IsPolynomial A.p A.order) }
-{
-    match value {
-        Value::Poly(f) => Ok(f),
-        _ => Err(Stop::Refused(Refusal::Kind)),
-    }
 }
 
 // The value with this sign.

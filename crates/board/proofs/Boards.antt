@@ -1,6 +1,6 @@
 -- What a claim answers, and what it leaves.
-use Rattle.std.proofs.Common.{inl, inr, MatchOption, cond, ℕ, zero, suc, Bool, true, false, ◌==◌, ◌≡◌, ◌≢◌, ◌≤◌, ◌<◌, ◌+◌, ◌*◌, ◌++◌, Option, Some, None, List, [], ◌∷◌, All, map, length, sum_by, slice_index_or, slice_set, refl, ap, sym, ◌∙◌, subst, arith, rules}
-use Rattle.std.proofs.lemmas.List.{get_or-set_same, get_or-set_other, get_or-map, append-nil, length-set, length-map}
+use Rattle.std.proofs.Common.{inl, inr, MatchOption, cond, ℕ, zero, suc, Bool, true, false, ◌==◌, ◌≡◌, ◌≢◌, ◌≤◌, ◌<◌, ◌+◌, ◌*◌, ◌++◌, Option, Some, None, List, [], ◌∷◌, map, length, sum_by, slice_index_or, slice_set, refl, ap, sym, ◌∙◌, subst, arith, rules}
+use Rattle.std.proofs.lemmas.List.{get_or-set_same, get_or-set_other, get_or-map, append-nil, length-map}
 use Rattle.std.specs.List.{find}
 use Rattle.std.proofs.lemmas.Bool.Decides.{nat_tests}
 use Rattle.word_model.specs.declared.records.Job.{Job}
@@ -8,13 +8,12 @@ use Rattle.word_model.specs.Jobs.{same_job}
 use Rattle.word_model.proofs.JobLists.{same_job-is, same_job-itself}
 use Rattle.board.specs.declared.events.Standing.{Standing}
 use Rattle.board.specs.declared.events.Standing.TheVariants.{Offered, Held, Published, Released, Taken}
-use Rattle.board.specs.declared.events.Claimed.{Claimed}
-use Rattle.board.specs.declared.events.Claimed.TheVariants.{Closed, NoneNow, Job as Gets}
+use Rattle.board.specs.declared.events.Claimed.TheVariants.{NoneNow, Job as Gets}
 use Rattle.board.specs.declared.events.BoardEvent.{BoardEvent}
-use Rattle.board.specs.declared.events.BoardEvent.TheVariants.{Offer, Claim, Publish, Release, Take, Close}
+use Rattle.board.specs.declared.events.BoardEvent.TheVariants.{Offer, Claim, Take, Close}
 use Rattle.board.specs.declared.logged.Item.{Item}
-use Rattle.board.specs.Boards.{or_else, unless_taken, standing, stands, hand, holds, if_seat, closed, is_close, offered, offer_of, if_same, next, is_offered}
-use Rattle.board.specs.Boards.{claimed, claim_of, claim_events, leaving, left_standing, next_place, place_of}
+use Rattle.board.specs.Boards.{or_else, unless_taken, standing, stands, hand, holds, if_seat, closed, is_close, offered, offer_of, next, is_offered}
+use Rattle.board.specs.Boards.{claimed, claim_of, leaving, left_standing, next_place, place_of}
 use Rattle.board.specs.Logs.{Fits, weight, in_hand, to_close, IsOn, Distinct, IsAtPlace}
 use Rattle.std.proofs.lemmas.List.Sums.{sum_by-cons, sum_by-append}
 use Rattle.std.proofs.lemmas.Bool.{cases_lt}

@@ -13,8 +13,8 @@ use Rattle.board.specs.declared.events.Claimed.{Claimed}
 use Rattle.board.specs.declared.events.Claimed.TheVariants.{Closed, NoneNow, Job as Gets}
 use Rattle.board.specs.declared.events.BoardEvent.{BoardEvent}
 use Rattle.board.specs.declared.events.BoardEvent.TheVariants.{Offer, Claim, Publish, Release, Take, Close}
-use Rattle.board.specs.Boards.{standing, stands, offered, if_same, unless_taken, place_of}
-use Rattle.board.specs.Boards.{claim_events, take_events, close_events, leave_events, leaving, left_standing}
+use Rattle.board.specs.Boards.{standing, offered, if_same, unless_taken, place_of}
+use Rattle.board.specs.Boards.{claim_events, take_events, close_events, leave_events}
 use Rattle.board.specs.Logs.{Distinct, IsAtPlace, Keeps}
 use Rattle.board.proofs.Logs.{standing-snoc, offered-snoc}
 use Rattle.board.proofs.Boards.{at-snoc, before-snoc}

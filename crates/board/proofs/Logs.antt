@@ -1,17 +1,14 @@
 -- A log with one event more.
-use Rattle.std.proofs.Common.{ℕ, zero, suc, Bool, true, false, ◌==◌, ◌≡◌, ◌≢◌, ◌≤◌, ◌<◌, ◌+◌, ◌++◌, Option, Some, None, List, [], ◌∷◌, All, map, length, sum_by, slice_index_or, slice_set, refl, ap, sym, ◌∙◌, subst, arith, rules}
+use Rattle.std.proofs.Common.{ℕ, zero, suc, Bool, true, false, ◌≡◌, ◌≢◌, ◌≤◌, ◌<◌, ◌+◌, ◌++◌, Option, Some, None, List, [], ◌∷◌, map, length, sum_by, slice_index_or, slice_set, refl, ap, sym, ◌∙◌, subst, arith, rules}
 use Rattle.std.proofs.lemmas.List.Sums.{sum_by-cons}
-use Rattle.std.proofs.lemmas.List.{get_or-set_same, get_or-set_other, get_or-map, append-nil, length-set, length-map}
-use Rattle.std.specs.List.{list_any, find}
+use Rattle.std.proofs.lemmas.List.{get_or-map, append-nil, length-set, length-map}
 use Rattle.word_model.specs.declared.records.Job.{Job}
 use Rattle.word_model.specs.Jobs.{same_job}
-use Rattle.word_model.proofs.JobLists.{same_job-is, same_job-itself}
 use Rattle.board.specs.declared.events.Standing.{Standing}
-use Rattle.board.specs.declared.events.Standing.TheVariants.{Offered, Held, Published, Released, Taken}
 use Rattle.board.specs.declared.events.BoardEvent.{BoardEvent}
 use Rattle.board.specs.declared.events.BoardEvent.TheVariants.{Offer, Claim, Publish, Release, Take, Close}
 use Rattle.board.specs.declared.logged.Item.{Item}
-use Rattle.board.specs.Boards.{standing, standing_from, stands, hand, hand_from, holds, closed, is_close, or_else, offered, offer_of, if_same, next, is_offered}
+use Rattle.board.specs.Boards.{standing, standing_from, stands, hand, hand_from, holds, closed, is_close, or_else, offered, offer_of}
 use Rattle.board.specs.Logs.{Fits, weight, in_hand, to_close, Distinct, IsOn}
 
 standing_from-snoc : (job : Job) (was : Option Standing) (log : List BoardEvent) (e : BoardEvent) → standing_from job was (log ++ e ∷ []) ≡ stands job (standing_from job was log) e

@@ -1,5 +1,5 @@
 -- Boards: what the list of a board's events says of jobs and seats.
-use Rattle.std.specs.Prelude.{ℕ, zero, suc, Bool, true, false, ◌==◌, ◌≡◌, ◌≢◌, ◌<◌, Option, Some, None, List, [], ◌∷◌}
+use Rattle.std.specs.Prelude.{ℕ, zero, suc, Bool, true, false, ◌==◌, Option, Some, None, List, [], ◌∷◌}
 use Rattle.std.specs.List.{find}
 use Rattle.word_model.specs.Jobs.{same_job}
 use Rattle.word_model.specs.declared.records.Job.{Job}

@@ -17,6 +17,8 @@ use std::marker::Model;
 
 mod events;
 mod logged;
+#[cfg(test)]
+mod tests;
 
 /// A board: jobs that are offered, and then claimed by a seat, published with a payload or released,
 /// and taken. It is known by the log of its events. Only `new` and `offer` take memory.

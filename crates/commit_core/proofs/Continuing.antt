@@ -1,12 +1,12 @@
 -- Starts that were reduced ahead, and what is left to do.
-use Rattle.std.proofs.Common.{◌≡◌, ℕ, zero, suc, ◌+◌, ◌<◌, ◌≤◌, true, false, Bool, List, [], ◌∷◌, ◌++◌, length, take, drop, Option, Some, None, IfSome, Ok, if◌then◌else◌, refl, sym, ap, ◌∙◌, subst, arith}
+use Rattle.std.proofs.Common.{◌≡◌, ℕ, ◌+◌, true, false, Bool, List, [], ◌∷◌, ◌++◌, length, take, drop, Option, None, if◌then◌else◌, refl, sym, ap, ◌∙◌, subst, arith}
 use Rattle.std.proofs.lemmas.List.{take-append-drop, length-take-le}
 use Rattle.monomials.specs.Polynomials.{Polynomial, Each, IsPolynomial}
 use Rattle.word_model.specs.Words.{Algebra}
 use Rattle.word_model.specs.Conditions.{IsGAlgebra}
 use Rattle.word_model.specs.Reduction.{Reduced as Reduction, reduce}
 use Rattle.word_model.specs.Jobs.{start_of, IsJob, UsesElements}
-use Rattle.word_model.specs.Machine.{State, Turn, turn_of_start, turn_of_rest}
+use Rattle.word_model.specs.Machine.{turn_of_start, turn_of_rest}
 use Rattle.word_model.specs.declared.records.Job.{Job}
 use Rattle.word_model.specs.declared.records.TraceStep.{TraceStep}
 use Rattle.word_model.specs.declared.records.Entry.{Entry}
@@ -16,14 +16,14 @@ use Rattle.word_model.proofs.Sugars.{reduce-uses}
 use Rattle.word_model.proofs.Reductions.{reduce-sorted}
 use Rattle.word_model.proofs.Longer.{longer}
 use Rattle.monomials.proofs.Keys.{Each-first}
-use Rattle.left_reduce.specs.Reductions.{GoneOn, behind_steps, ended_of, ends_at}
+use Rattle.left_reduce.specs.Reductions.{GoneOn, behind_steps, ends_at}
 use Rattle.left_reduce.specs.Inside.Steps.{after_steps}
 use Rattle.left_reduce.proofs.Starts.{start_of-append}
 use Rattle.left_reduce.specs.declared.reducing.Ended.TheVariants.{DegreeOver}
 use Rattle.run_records.specs.Ahead.{ReducedStart}
-use Rattle.commit_core.specs.Leads.{Run, IsAt, run_step}
+use Rattle.commit_core.specs.Leads.{Run}
 use Rattle.commit_core.specs.Kept.{Turns, is_over, reduction_of}
-use Rattle.commit_core.specs.Specs.{IsGood, IsAhead, IsCounted, GoesOn, steps_of, start_left}
+use Rattle.commit_core.specs.Specs.{IsGood, IsCounted, steps_of, start_left}
 use Rattle.commit_core.specs.Begun.{IsBegun, Records}
 
 -- ---- a good Spec

@@ -9,7 +9,7 @@ use Rattle.monomials.specs.Orders.{RowOrder}
 use Rattle.monomials.specs.Leading.{leading_coefficient}
 use Rattle.word_model.specs.Words.{Algebra}
 use Rattle.word_model.specs.Conditions.{IsGAlgebra}
-use Rattle.word_model.specs.Reduction.{Reduced as Reduction, reduce}
+use Rattle.word_model.specs.Reduction.{Reduced as Reduction}
 use Rattle.word_model.specs.Jobs.{same_job, is_queued, without, job_sugar, element_sugar, least_job, chain_witness, AreSugars}
 use Rattle.word_model.specs.Machine.{State, On, Over, Journal, turn_of_job, with_entry, with_element, jobs_of, most_elements, seeds_from, first_state, IsElement, IsState}
 use Rattle.word_model.specs.declared.records.Job.{Job}

@@ -1,5 +1,5 @@
 -- A lead that is gone on with, and the run of the machine.
-use Rattle.std.proofs.Common.{◌≡◌, ℕ, suc, ◌-◌, ◌<◌, length, List, Ok, sym, ap, ◌∙◌, refl}
+use Rattle.std.proofs.Common.{◌≡◌, suc, ◌-◌, ◌<◌, length, List, Ok, sym, ap, ◌∙◌, refl}
 use Rattle.monomials.specs.Polynomials.{Polynomial}
 use Rattle.word_model.specs.Words.{Algebra}
 use Rattle.word_model.specs.Machine.{State, Over, Journal, step, machine, ends_with}

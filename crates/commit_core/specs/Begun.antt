@@ -1,5 +1,5 @@
 -- Where the reduction of a job begins, and the entry that it leaves. Private contracts alone cite this.
-use Rattle.std.specs.Prelude.{◌≡◌, List, Option, Some}
+use Rattle.std.specs.Prelude.{◌≡◌, List, Some}
 use Rattle.monomials.specs.Polynomials.{Polynomial}
 use Rattle.word_model.specs.Words.{Algebra}
 use Rattle.word_model.specs.Reduction.{reduce}

@@ -1,16 +1,14 @@
 -- Each event of the program's world is that of the definitions.
-use Rattle.std.proofs.Common.{◌≡◌, ◌≢◌, inl, inr, ℕ, zero, suc, ◌+◌, ◌<◌, ◌≤◌, ◌||◌, ◌&&◌, nat_lt, nat_le, min, ◌==◌, Bool, true, false, List, [], ◌∷◌, ◌++◌, length, map, take, drop, slice_set, slice_index_or, Option, Some, None, IsSome, IfSome, MatchOption, Ok, if◌then◌else◌, refl, sym, ap, ◌∙◌, subst, arith, append-nil}
-use Rattle.std.proofs.lemmas.Bool.Decides.{nat_tests}
+use Rattle.std.proofs.Common.{◌≡◌, ◌≢◌, inl, inr, ℕ, zero, suc, ◌+◌, ◌<◌, ◌≤◌, ◌||◌, ◌&&◌, min, Bool, true, false, List, [], ◌∷◌, ◌++◌, length, map, take, drop, slice_set, slice_index_or, Option, Some, None, IsSome, IfSome, MatchOption, Ok, if◌then◌else◌, refl, sym, ap, ◌∙◌, subst, arith, append-nil}
 use Rattle.std.proofs.lemmas.Bool.{cases_lt}
 use Rattle.std.proofs.lemmas.List.{length-take}
 use Rattle.std.specs.List.{filter, find}
-use Rattle.monomials.specs.Monomials.{Monomial}
 use Rattle.monomials.specs.Orders.{RowOrder}
 use Rattle.monomials.specs.Polynomials.{Polynomial, Each, IsPolynomial}
 use Rattle.std.specs.declared.cmp.Ordering.TheVariants.{Less}
 use Rattle.word_model.specs.Words.{Algebra}
 use Rattle.word_model.specs.Jobs.{same_job, is_queued, least_job}
-use Rattle.word_model.specs.Machine.{State, Turn, On, Over, step}
+use Rattle.word_model.specs.Machine.{State}
 use Rattle.word_model.specs.declared.records.Job.{Job}
 use Rattle.word_model.specs.declared.records.Outcome.{Outcome}
 use Rattle.run_records.specs.Ahead.{ReducedStart}
@@ -19,7 +17,7 @@ use Rattle.pair_strategy.specs.declared.keys.Keyed.{Keyed}
 use Rattle.board.specs.declared.events.Standing.{Standing}
 use Rattle.board.specs.declared.events.Standing.TheVariants.{Offered, Held, Published, Released, Taken}
 use Rattle.board.specs.declared.events.BoardEvent.{BoardEvent}
-use Rattle.board.specs.declared.events.BoardEvent.TheVariants.{Offer, Claim, Publish, Release, Take, Close}
+use Rattle.board.specs.declared.events.BoardEvent.TheVariants.{Offer, Publish, Release}
 use Rattle.replay.specs.declared.events.Hand.{Hand}
 use Rattle.commit_core.specs.declared.lead.Committed.{Committed}
 use Rattle.commit_core.specs.declared.lead.Committed.TheVariants.{Added, Over as Ended}
@@ -32,7 +30,7 @@ use Rattle.commit_core.proofs.Running.{same-run}
 use Rattle.replay.specs.declared.events.Event.{Event}
 use Rattle.word_model.specs.Conditions.{IsGAlgebra}
 use Rattle.commit_core.specs.Leads.{Run, IsLead, IsAt, IsSameRun, IsCommit, run_step, keyed}
-use Rattle.replay.specs.Worlds.{CoreWorld, first_world, after_event, after_events, take_job, take_first, after_commit, commits, offer_first, off_board, offers, is_off, with_hand, without_hand, hand_at, held_job, last_seat, keep, publish_spec, publish_hand, release_hand, spec_of}
+use Rattle.replay.specs.Worlds.{CoreWorld, first_world, after_event, after_events, take_job, take_first, after_commit, commits, offer_first, off_board, offers, is_off, without_hand, hand_at, held_job, last_seat, keep, publish_spec, publish_hand, release_hand, spec_of}
 use Rattle.replay.specs.Shown.{WorldValue, Shows, Fits}
 use Rattle.word_model.proofs.JobLists.{same_job-is}
 use Rattle.commit_core.proofs.Leading.{Leading, no_jobs, some_jobs}

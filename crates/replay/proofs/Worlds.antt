@@ -1,21 +1,17 @@
 -- Every list of events keeps what every world has.
-use Rattle.std.proofs.Common.{◌≡◌, ◌≢◌, ℕ, zero, suc, ◌+◌, ◌-◌, ◌<◌, ◌≤◌, min, nat_le, nat_lt, ◌||◌, ◌&&◌, ◌==◌, not, ◌⊎◌, inl, inr, Bool, true, false, List, [], ◌∷◌, ◌++◌, length, take, map, slice_set, slice_index_or, Option, Some, None, IfSome, if◌then◌else◌, refl, sym, ap, ◌∙◌, subst, arith, length-append, append_assoc, append-nil}
+use Rattle.std.proofs.Common.{◌≡◌, ℕ, zero, suc, ◌-◌, ◌≤◌, min, nat_le, nat_lt, ◌||◌, ◌&&◌, ◌==◌, not, ◌⊎◌, inl, inr, Bool, true, false, List, [], ◌∷◌, ◌++◌, length, take, map, slice_set, slice_index_or, Option, Some, None, IfSome, if◌then◌else◌, refl, sym, ap, ◌∙◌, subst, arith, length-append, append-nil}
 use Rattle.std.proofs.lemmas.Bool.Decides.{nat_tests}
 use Rattle.std.proofs.lemmas.List.{take-append-le, map-append}
-use Rattle.std.specs.List.{filter, list_any, find}
-use Rattle.monomials.specs.Polynomials.{Polynomial, Each, IsPolynomial, poly_scale}
+use Rattle.std.specs.List.{list_any, find}
+use Rattle.monomials.specs.Polynomials.{Polynomial, Each, IsPolynomial}
 use Rattle.word_model.specs.Words.{Algebra}
 use Rattle.word_model.specs.Conditions.{IsGAlgebra}
-use Rattle.word_model.specs.Reduction.{Reduced, reduce}
-use Rattle.word_model.specs.Jobs.{same_job, is_queued, without, least_job, start_of, chain_witness, IsJob}
-use Rattle.word_model.specs.Machine.{State, Turn, On, Over, Journal, step, turn_of_job, turn_of_start, turn_of_rest, with_entry, with_element, jobs_of, first_state, machine, run_within, after_turn, ends_with, most_elements, IsElement, IsState}
+use Rattle.word_model.specs.Jobs.{same_job, is_queued, without, least_job, start_of, IsJob}
+use Rattle.word_model.specs.Machine.{State, Turn, On, Over, step, first_state, machine, run_within, IsState}
 use Rattle.word_model.specs.declared.records.Job.{Job}
 use Rattle.word_model.specs.declared.records.Job.TheVariants.{Seed, Pair, Right}
 use Rattle.word_model.specs.declared.records.Mode.{Mode}
-use Rattle.word_model.specs.declared.records.Entry.{Entry}
-use Rattle.word_model.specs.declared.records.Entry.TheVariants.{Skipped, Zero, New}
 use Rattle.word_model.specs.declared.records.Outcome.{Outcome}
-use Rattle.word_model.specs.declared.records.Outcome.TheVariants.{Finished, BudgetSpent, BasisFull, DegreeOver}
 use Rattle.monomials.proofs.Keys.{Each-append, Each-weaker}
 use Rattle.word_model.proofs.Steps.{Each-filter, IsTreated-longer, first_state-is, step-keeps, least_job-one}
 use Rattle.word_model.proofs.JobLists.{same_job-is, same_job-itself}
@@ -31,15 +27,15 @@ use Rattle.board.specs.declared.events.Claimed.TheVariants.{Closed, NoneNow, Job
 use Rattle.replay.specs.declared.events.Event.{Event}
 use Rattle.replay.specs.declared.events.Event.TheVariants.{Offer as Offers, Claim as Claims, Fill as Fills, Publish as Publishes, Release as Releases, Take as Takes, Commit as Commits, Close as Closes}
 use Rattle.replay.specs.declared.events.Hand.{Hand}
-use Rattle.board.specs.Boards.{standing, closed, next, is_offered, offered, claimed, claim_of, place_of, close_events, hand, holds, if_seat}
+use Rattle.board.specs.Boards.{standing, closed, next, is_offered, offered, claimed, claim_of, place_of, close_events, hand, if_seat}
 use Rattle.commit_core.specs.Named.{IsNamed}
 use Rattle.commit_core.specs.Specs.{IsGood, IsAhead, names_within, spec_from}
-use Rattle.replay.specs.Worlds.{CoreWorld, first_world, last_seat, hand_at, held_job, with_hand, without_hand, is_off, off_board, offer_first, offers, claim_job, claim_empty, claims, is_place, same_place, fills, spec_of, keep, publish_spec, publish_hand, release_hand, take_job, take_first, after_commit, commits, after_event, after_events, WasQueued, IsSound}
+use Rattle.replay.specs.Worlds.{CoreWorld, first_world, last_seat, hand_at, held_job, with_hand, without_hand, is_off, off_board, offer_first, offers, claim_job, claim_empty, claims, is_place, same_place, fills, spec_of, keep, publish_spec, publish_hand, release_hand, take_job, take_first, commits, after_event, after_events, WasQueued, IsSound}
 use Rattle.replay.specs.Fit.{IsFit}
 use Rattle.commit_core.proofs.Bringing.{queued-append}
 use Rattle.commit_core.proofs.Growing.{Grew, step-grew, run-part}
 use Rattle.commit_core.specs.Leads.{IsPart, job_of}
-use Rattle.board.proofs.Logs.{standing-snoc, hand-snoc, closed-snoc, offered-snoc}
+use Rattle.board.proofs.Logs.{hand-snoc, offered-snoc}
 use Rattle.commit_core.proofs.Turning.{run-first, run-goes_on, run-ends}
 
 -- ---- jobs that are queued, or were

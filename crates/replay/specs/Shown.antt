@@ -1,5 +1,5 @@
 -- How a world of the program stands to one of the definitions.
-use Rattle.std.specs.Prelude.{◌≡◌, ℕ, List, Option}
+use Rattle.std.specs.Prelude.{◌≡◌, List, Option}
 use Rattle.run_records.specs.Ahead.{ReducedStart}
 use Rattle.gproduct.specs.declared.place.Place.{Place}
 use Rattle.replay.specs.declared.events.Hand.{Hand}

@@ -1,21 +1,19 @@
 -- The core over lists of events: what a lead, a board, hands and a table come to, whatever the order of events.
-use Rattle.std.specs.Prelude.{◌≡◌, ℕ, ◌≤◌, ◌<◌, ◌++◌, ◌&&◌, ◌==◌, min, not, nat_le, nat_lt, Bool, true, false, List, [], ◌∷◌, length, take, map, slice_set, slice_index_or, Option, Some, None, IfSome, if◌then◌else◌}
+use Rattle.std.specs.Prelude.{◌≡◌, ℕ, ◌≤◌, ◌++◌, ◌&&◌, ◌==◌, min, not, nat_le, nat_lt, Bool, true, false, List, [], ◌∷◌, length, take, map, slice_set, slice_index_or, Option, Some, None, IfSome, if◌then◌else◌}
 use Rattle.std.specs.List.{filter, list_any}
 use Rattle.monomials.specs.Polynomials.{Polynomial, Each}
 use Rattle.word_model.specs.Words.{Algebra}
 use Rattle.word_model.specs.Jobs.{least_job, is_queued}
-use Rattle.word_model.specs.Machine.{State, Turn, On, Over, Journal, step, first_state, machine}
+use Rattle.word_model.specs.Machine.{State, Turn, On, Over, step, first_state, machine}
 use Rattle.word_model.specs.declared.records.Job.{Job}
 use Rattle.word_model.specs.declared.records.Mode.{Mode}
-use Rattle.word_model.specs.declared.records.Entry.{Entry}
-use Rattle.word_model.specs.declared.records.Entry.TheVariants.{Skipped, Zero, New}
 use Rattle.word_model.specs.declared.records.Outcome.{Outcome}
 use Rattle.run_records.specs.Ahead.{ReducedStart}
 use Rattle.gproduct.specs.declared.place.Place.{Place}
 use Rattle.board.specs.declared.events.Standing.{Standing}
 use Rattle.board.specs.declared.events.Standing.TheVariants.{Offered, Held, Published, Released, Taken}
 use Rattle.board.specs.declared.events.BoardEvent.{BoardEvent}
-use Rattle.board.specs.declared.events.BoardEvent.TheVariants.{Offer, Claim, Publish, Release, Take, Close}
+use Rattle.board.specs.declared.events.BoardEvent.TheVariants.{Offer, Claim, Publish, Release, Take}
 use Rattle.board.specs.declared.events.Claimed.{Claimed}
 use Rattle.board.specs.declared.events.Claimed.TheVariants.{Closed, NoneNow, Job as Gets}
 use Rattle.replay.specs.declared.events.Event.{Event}

@@ -6,4 +6,6 @@ pub use world::{World, replay};
 
 mod events;
 pub mod laws;
+#[cfg(test)]
+mod tests;
 mod world;

@@ -1,4 +1,3 @@
-use Rattle.std.proofs.Common.{sym}
 use Rattle.board.proofs.Keeping.{keeps_nothing}
 use Rattle.board.proofs.Board.new.Goals as goal
 

@@ -1,4 +1,4 @@
-use Rattle.std.proofs.Common.{◌≡◌, ◌≢◌, Some, None, IsSome, IfSome, MatchOption, sym, subst}
+use Rattle.std.proofs.Common.{◌≡◌, ◌≢◌, Some, IsSome, IfSome, MatchOption, sym, subst}
 use Rattle.board.specs.declared.events.Standing.TheVariants.{Taken}
 use Rattle.board.specs.Boards.{hand, standing, offered, place_of, BoardValue}
 use Rattle.board.specs.Logs.{IsAtPlace}

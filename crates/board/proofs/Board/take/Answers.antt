@@ -1,4 +1,4 @@
-use Rattle.std.proofs.Common.{◌≡◌, ◌∷◌, ◌++◌, [], Some, None, IsSome, slice_index_or, slice_set, length, sym, ap, ◌∙◌, subst, arith, rules}
+use Rattle.std.proofs.Common.{◌≡◌, ◌∷◌, ◌++◌, [], None, IsSome, slice_index_or, slice_set, sym, ap, ◌∙◌, subst, arith}
 use Rattle.board.specs.declared.events.BoardEvent.TheVariants.{Take}
 use Rattle.board.specs.Boards.{standing, offered, take_events, place_of, BoardValue}
 use Rattle.board.specs.Logs.{Keeps}

@@ -1,4 +1,4 @@
-use Rattle.std.proofs.Common.{◌≡◌, ◌+◌, ◌∷◌, drop, slice_index_or, length, sym, ap, ◌∙◌, subst, arith, add-one, drop-cons}
+use Rattle.std.proofs.Common.{◌≡◌, ◌+◌, ◌∷◌, drop, sym, ap, ◌∙◌, subst, arith, add-one, drop-cons}
 use Rattle.word_model.specs.Conditions.{IsGAlgebra}
 use Rattle.commit_core.specs.Leads.{IsLead}
 use Rattle.replay.specs.Shown.{WorldValue}

@@ -1,11 +1,10 @@
-use Rattle.std.proofs.Common.{rules, arith, ◌≡◌, ℕ, ◌++◌, ◌<◌, ◌+◌, ◌∷◌, [], slice_index_or, slice_set, length, sym, ◌∙◌, ap, subst, refl, false, Some, vec_len, vec_capacity}
+use Rattle.std.proofs.Common.{rules, arith, ◌≡◌, ◌<◌, slice_index_or, length, sym, ◌∙◌, ap, subst, Some, vec_len, vec_capacity}
 use Rattle.std.proofs.lemmas.List.{append-nil, length-set}
 use Rattle.board.specs.declared.logged.Item.{Item}
 use Rattle.board.specs.declared.events.Claimed.TheVariants.{NoneNow, Job as Gets}
-use Rattle.board.specs.declared.events.BoardEvent.TheVariants.{Claim}
-use Rattle.board.specs.Boards.{claimed, claim_events}
-use Rattle.board.specs.declared.events.Standing.TheVariants.{Offered, Held}
-use Rattle.board.specs.Logs.{Fits, LogValue}
+use Rattle.board.specs.Boards.{claimed}
+use Rattle.board.specs.declared.events.Standing.TheVariants.{Offered}
+use Rattle.board.specs.Logs.{LogValue}
 use Rattle.board.specs.Boards.{hand}
 use Rattle.board.proofs.Boards.{claimed-none, claimed-some, claim_fits, fits_grows, any_default}
 use Rattle.board.proofs.logged.Logged.claim.Goals as goal

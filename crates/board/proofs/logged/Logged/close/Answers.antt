@@ -1,6 +1,5 @@
-use Rattle.std.proofs.Common.{arith, rules, ◌≡◌, subst, ap, ◌∙◌, vec_len, vec_capacity, false, true}
+use Rattle.std.proofs.Common.{subst, vec_len, vec_capacity}
 use Rattle.board.specs.Logs.{Fits}
-use Rattle.board.specs.Boards.{closed}
 use Rattle.board.proofs.Boards.{close_fits, fits_grows}
 use Rattle.board.proofs.logged.Logged.close.Goals as goal
 

@@ -1,11 +1,10 @@
-use Rattle.std.proofs.Common.{rules, arith, ◌≡◌, ◌≢◌, ℕ, ◌++◌, ◌<◌, ◌+◌, ◌∷◌, [], slice_index_or, slice_set, length, sym, ◌∙◌, ap, subst, refl, true, false, Some, None, vec_len, vec_capacity, map, IfSome, MatchOption}
-use Rattle.std.proofs.lemmas.List.{append-nil, length-set}
-use Rattle.word_model.specs.declared.records.Job.{Job}
+use Rattle.std.proofs.Common.{rules, arith, ◌≡◌, ◌≢◌, slice_index_or, sym, ◌∙◌, ap, subst, true, false, Some, None, vec_len, vec_capacity, IfSome, MatchOption}
+use Rattle.std.proofs.lemmas.List.{length-set}
 use Rattle.word_model.specs.Jobs.{same_job}
 use Rattle.word_model.proofs.JobLists.{same_job-is, same_job-itself}
 use Rattle.board.specs.declared.logged.Item.{Item}
-use Rattle.board.specs.declared.events.Standing.TheVariants.{Offered, Held, Published, Taken}
-use Rattle.board.specs.Logs.{Fits, LogValue, Distinct}
+use Rattle.board.specs.declared.events.Standing.TheVariants.{Taken}
+use Rattle.board.specs.Logs.{LogValue, Distinct}
 use Rattle.board.specs.Logs.{IsAtPlace}
 use Rattle.board.specs.Boards.{hand, standing, offered, unless_taken, place_of}
 use Rattle.board.proofs.Boards.{leave_fits, fits_grows, any_default, stands_at, place_is, place_left}

@@ -1,5 +1,4 @@
-use Rattle.std.proofs.Common.{arith, ◌≡◌, ◌≤◌, ℕ, [], sym, vec_len, vec_capacity}
-use Rattle.board.specs.Logs.{Fits}
+use Rattle.std.proofs.Common.{arith, vec_capacity}
 use Rattle.board.proofs.Boards.{empty_fits, fits_grows}
 use Rattle.board.proofs.logged.Logged.new.Goals as goal
 

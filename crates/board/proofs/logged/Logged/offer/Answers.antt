@@ -1,4 +1,4 @@
-use Rattle.std.proofs.Common.{◌≡◌, ◌<◌, ◌≤◌, ◌+◌, ◌-◌, ◌*◌, ◌∷◌, ◌++◌, [], length, map, take, drop, slice_index_or, vec_len, vec_capacity, true, false, None, refl, sym, ap, ◌∙◌, subst, arith, rules, append-nil, append_assoc, add-one, drop-cons}
+use Rattle.std.proofs.Common.{◌≡◌, ◌<◌, ◌≤◌, ◌+◌, ◌-◌, ◌*◌, ◌∷◌, ◌++◌, [], length, map, take, drop, slice_index_or, vec_len, vec_capacity, false, None, refl, sym, ap, ◌∙◌, subst, arith, rules, append-nil, append_assoc, add-one, drop-cons}
 use Rattle.std.proofs.lemmas.List.{take_more, map-append}
 use Rattle.monomials.specs.Polynomials.{Each}
 use Rattle.word_model.specs.declared.records.Job.{Job}
@@ -6,7 +6,7 @@ use Rattle.pair_strategy.specs.Queues.{IsSet}
 use Rattle.board.specs.Boards.{standing, closed}
 use Rattle.board.specs.Logs.{Fits, LogValue}
 use Rattle.board.specs.declared.events.BoardEvent.TheVariants.{Offer}
-use Rattle.board.proofs.Boards.{wide_fits, offer_fits, fits_grows, any_default}
+use Rattle.board.proofs.Boards.{wide_fits, offer_fits, fits_grows}
 use Rattle.board.proofs.Keeping.{fresh-on}
 use Rattle.board.proofs.logged.Logged.offer.Goals as goal
 

@@ -1,14 +1,12 @@
-use Rattle.std.proofs.Common.{rules, arith, ◌≡◌, ◌≢◌, ℕ, ◌++◌, ◌<◌, ◌+◌, ◌∷◌, [], slice_index_or, slice_set, length, sym, ◌∙◌, ap, subst, refl, true, false, Some, None, vec_len, vec_capacity, map, IfSome, MatchOption}
+use Rattle.std.proofs.Common.{rules, ◌≡◌, ◌≢◌, slice_index_or, sym, ◌∙◌, ap, subst, true, Some, None, vec_len, vec_capacity, MatchOption}
 use Rattle.std.proofs.lemmas.List.{append-nil}
-use Rattle.word_model.specs.declared.records.Job.{Job}
 use Rattle.word_model.specs.Jobs.{same_job}
-use Rattle.word_model.proofs.JobLists.{same_job-is, same_job-itself}
+use Rattle.word_model.proofs.JobLists.{same_job-is}
 use Rattle.board.specs.declared.logged.Item.{Item}
-use Rattle.board.specs.declared.events.Standing.TheVariants.{Offered, Held, Published, Taken}
-use Rattle.board.specs.Logs.{Fits, LogValue}
+use Rattle.board.specs.declared.events.Standing.TheVariants.{Published, Taken}
+use Rattle.board.specs.Logs.{LogValue}
 use Rattle.board.specs.Logs.{IsAtPlace}
-use Rattle.board.specs.Boards.{hand, standing, offered, place_of}
-use Rattle.board.specs.Boards.{take_events}
+use Rattle.board.specs.Boards.{standing, offered, place_of}
 use Rattle.board.proofs.Boards.{take_fits, fits_grows, any_default, stands_at, place_is, place_taken}
 use Rattle.board.proofs.logged.Logged.take.Goals as goal
 

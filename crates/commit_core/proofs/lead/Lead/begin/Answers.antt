@@ -1,5 +1,5 @@
-use Rattle.std.proofs.Common.{◌≡◌, IfSome, Some, sym, ap, ◌∙◌, subst}
-use Rattle.monomials.specs.Polynomials.{Each, IsPolynomial}
+use Rattle.std.proofs.Common.{◌≡◌, IfSome, sym, ◌∙◌, subst}
+use Rattle.monomials.specs.Polynomials.{IsPolynomial}
 use Rattle.word_model.specs.Words.{Algebra}
 use Rattle.word_model.specs.Conditions.{IsGAlgebra}
 use Rattle.monomials.proofs.Keys.{Each-weaker}

@@ -1,4 +1,4 @@
-use Rattle.std.proofs.Common.{Some, subst}
+use Rattle.std.proofs.Common.{subst}
 use Rattle.word_model.specs.Machine.{step}
 use Rattle.replay.specs.Worlds.{CoreWorld, commits}
 use Rattle.replay.specs.Shown.{WorldValue, Shows, Fits}

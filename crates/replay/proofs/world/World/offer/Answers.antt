@@ -1,4 +1,4 @@
-use Rattle.std.proofs.Common.{◌≡◌, Some, None, sym, ap, ◌∙◌, subst}
+use Rattle.std.proofs.Common.{◌≡◌, Some, None, sym, ◌∙◌, subst}
 use Rattle.std.specs.List.{find}
 use Rattle.board.specs.Boards.{standing}
 use Rattle.replay.specs.Worlds.{CoreWorld, offers, is_off}

@@ -1,4 +1,4 @@
-use Rattle.std.proofs.Common.{◌≡◌, ◌≤◌, length, List, Some, None, sym, ap, ◌∙◌, subst, arith}
+use Rattle.std.proofs.Common.{◌≡◌, ◌≤◌, length, List, Some, sym, ◌∙◌, subst}
 use Rattle.monomials.specs.Polynomials.{Polynomial}
 use Rattle.commit_core.specs.Named.{IsNamed}
 use Rattle.replay.specs.Worlds.{CoreWorld, publish_hand, hand_at}

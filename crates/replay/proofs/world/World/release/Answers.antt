@@ -1,4 +1,4 @@
-use Rattle.std.proofs.Common.{Some, sym, ◌∙◌, subst}
+use Rattle.std.proofs.Common.{sym, ◌∙◌, subst}
 use Rattle.replay.specs.Worlds.{CoreWorld, release_hand, hand_at}
 use Rattle.replay.specs.Shown.{WorldValue, Shows, Fits}
 use Rattle.replay.proofs.Showing.{release-shown}

@@ -1,5 +1,4 @@
 use Rattle.std.proofs.Common.{◌≡◌, MatchOption, Some, subst}
-use Rattle.word_model.specs.Machine.{State}
 use Rattle.replay.specs.Worlds.{CoreWorld, take_first}
 use Rattle.replay.specs.Shown.{WorldValue, Shows}
 use Rattle.replay.proofs.Showing.{take-first, take-nothing}

@@ -20,8 +20,8 @@ use std::sync::ledger::Ledger;
 
 mod checking;
 mod finishing;
-mod making;
-mod multiples;
+pub mod making;
+pub mod multiples;
 mod pairs;
 mod pushing;
 #[cfg(test)]

@@ -23,8 +23,8 @@ use run_records::{Entry, Job, Row, Trace};
 use std::alloc::{AllocError, Global};
 use std::sync::ledger::Ledger;
 
-// The rows of the elements that these entries of a left run over the generators add.
-pub(crate) fn basis_rows<L: Ledger>(
+/// The rows of the elements that these entries of a left run over the generators add.
+pub fn basis_rows<L: Ledger>(
     alloc: Global,
     seat: &mut TableSeat,
     gens: &[GPoly],
@@ -114,8 +114,8 @@ fn new_row<L: Ledger>(
     Ok(Row { entries })
 }
 
-// The entries of the row of a job's start.
-fn start_row<L: Ledger>(
+/// The entries of the row of a job's start.
+pub fn start_row<L: Ledger>(
     alloc: Global,
     seat: &mut TableSeat,
     gens: &[GPoly],
@@ -144,8 +144,8 @@ fn start_row<L: Ledger>(
     }
 }
 
-// The row of the generator of number `s` among so many: 1 in its place.
-fn unit_row(
+/// The row of the generator of number `s` among so many: 1 in its place.
+pub fn unit_row(
     alloc: Global,
     algebra: &Algebra,
     count: usize,

@@ -138,8 +138,8 @@ fn subtract_one<L: Ledger>(
     Ok(())
 }
 
-// Subtracts the multiples of rows that the steps of a trace name.
-pub(crate) fn subtract_steps<L: Ledger>(
+/// Subtracts the multiples of rows that the steps of a trace name.
+pub fn subtract_steps<L: Ledger>(
     alloc: Global,
     seat: &mut TableSeat,
     entries: &mut [GPoly],

@@ -6,11 +6,11 @@ use Rattle.std.proofs.lemmas.Bool.Decides.{nat_tests}
 use Rattle.word_model.specs.declared.records.Job.{Job}
 use Rattle.word_model.specs.Jobs.{same_job}
 use Rattle.word_model.proofs.JobLists.{same_job-is, same_job-itself}
-use Rattle.board.specs.declared.events.Standing.{Standing}
-use Rattle.board.specs.declared.events.Standing.TheVariants.{Offered, Held, Published, Released, Taken}
-use Rattle.board.specs.declared.events.Claimed.TheVariants.{NoneNow, Job as Gets}
-use Rattle.board.specs.declared.events.BoardEvent.{BoardEvent}
-use Rattle.board.specs.declared.events.BoardEvent.TheVariants.{Offer, Claim, Take, Close}
+use Rattle.word_model.specs.declared.events.Standing.{Standing}
+use Rattle.word_model.specs.declared.events.Standing.TheVariants.{Offered, Held, Published, Released, Taken}
+use Rattle.word_model.specs.declared.events.Claimed.TheVariants.{NoneNow, Job as Gets}
+use Rattle.word_model.specs.declared.events.BoardEvent.{BoardEvent}
+use Rattle.word_model.specs.declared.events.BoardEvent.TheVariants.{Offer, Claim, Take, Close}
 use Rattle.board.specs.declared.logged.Item.{Item}
 use Rattle.board.specs.Boards.{or_else, unless_taken, standing, stands, hand, holds, if_seat, closed, is_close, offered, offer_of, next, is_offered}
 use Rattle.board.specs.Boards.{claimed, claim_of, leaving, left_standing, next_place, place_of}

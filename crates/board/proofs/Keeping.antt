@@ -7,12 +7,12 @@ use Rattle.monomials.specs.Polynomials.{Each}
 use Rattle.word_model.specs.Jobs.{same_job, is_queued}
 use Rattle.pair_strategy.specs.Queues.{IsSet}
 use Rattle.word_model.proofs.JobLists.{same_job-itself, same_job-is}
-use Rattle.board.specs.declared.events.Standing.{Standing}
-use Rattle.board.specs.declared.events.Standing.TheVariants.{Offered, Held, Published, Released, Taken}
-use Rattle.board.specs.declared.events.Claimed.{Claimed}
-use Rattle.board.specs.declared.events.Claimed.TheVariants.{Closed, NoneNow, Job as Gets}
-use Rattle.board.specs.declared.events.BoardEvent.{BoardEvent}
-use Rattle.board.specs.declared.events.BoardEvent.TheVariants.{Offer, Claim, Publish, Release, Take, Close}
+use Rattle.word_model.specs.declared.events.Standing.{Standing}
+use Rattle.word_model.specs.declared.events.Standing.TheVariants.{Offered, Held, Published, Released, Taken}
+use Rattle.word_model.specs.declared.events.Claimed.{Claimed}
+use Rattle.word_model.specs.declared.events.Claimed.TheVariants.{Closed, NoneNow, Job as Gets}
+use Rattle.word_model.specs.declared.events.BoardEvent.{BoardEvent}
+use Rattle.word_model.specs.declared.events.BoardEvent.TheVariants.{Offer, Claim, Publish, Release, Take, Close}
 use Rattle.board.specs.Boards.{standing, offered, if_same, unless_taken, place_of}
 use Rattle.board.specs.Boards.{claim_events, take_events, close_events, leave_events}
 use Rattle.board.specs.Logs.{Distinct, IsAtPlace, Keeps}

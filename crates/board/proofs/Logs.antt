@@ -4,9 +4,9 @@ use Rattle.std.proofs.lemmas.List.Sums.{sum_by-cons}
 use Rattle.std.proofs.lemmas.List.{get_or-map, append-nil, length-set, length-map}
 use Rattle.word_model.specs.declared.records.Job.{Job}
 use Rattle.word_model.specs.Jobs.{same_job}
-use Rattle.board.specs.declared.events.Standing.{Standing}
-use Rattle.board.specs.declared.events.BoardEvent.{BoardEvent}
-use Rattle.board.specs.declared.events.BoardEvent.TheVariants.{Offer, Claim, Publish, Release, Take, Close}
+use Rattle.word_model.specs.declared.events.Standing.{Standing}
+use Rattle.word_model.specs.declared.events.BoardEvent.{BoardEvent}
+use Rattle.word_model.specs.declared.events.BoardEvent.TheVariants.{Offer, Claim, Publish, Release, Take, Close}
 use Rattle.board.specs.declared.logged.Item.{Item}
 use Rattle.board.specs.Boards.{standing, standing_from, stands, hand, hand_from, holds, closed, is_close, or_else, offered, offer_of}
 use Rattle.board.specs.Logs.{Fits, weight, in_hand, to_close, Distinct, IsOn}

@@ -2,9 +2,9 @@
 use Rattle.std.specs.Prelude.{ℕ, Bool, true, false, ◌≡◌, ◌≢◌, ◌≤◌, ◌<◌, ◌+◌, Option, Some, None, IsSome, List, All, map, length, sum_by, slice_index_or}
 use Rattle.word_model.specs.Jobs.{same_job}
 use Rattle.word_model.specs.declared.records.Job.{Job}
-use Rattle.board.specs.declared.events.Standing.{Standing}
-use Rattle.board.specs.declared.events.Standing.TheVariants.{Offered, Held, Published, Released, Taken}
-use Rattle.board.specs.declared.events.BoardEvent.{BoardEvent}
+use Rattle.word_model.specs.declared.events.Standing.{Standing}
+use Rattle.word_model.specs.declared.events.Standing.TheVariants.{Offered, Held, Published, Released, Taken}
+use Rattle.word_model.specs.declared.events.BoardEvent.{BoardEvent}
 use Rattle.board.specs.declared.logged.Item.{Item}
 use Rattle.board.specs.Boards.{standing, hand, closed, offered}
 

@@ -6,16 +6,15 @@ ghost use Rattle.monomials.specs.Polynomials.{Each};
 ghost use Rattle.word_model.specs.declared.records.Job.{Job};
 ghost use Rattle.pair_strategy.specs.Queues.{IsSet};
 ghost use Rattle.board.specs.Boards.{standing, hand, closed, offered, claimed, claim_events, leave_events, take_events, close_events, place_of};
-ghost use Rattle.board.specs.declared.events.BoardEvent.TheVariants.{Claim, Offer};
-ghost use Rattle.board.specs.declared.events.Standing.TheVariants.{Taken, Published};
+ghost use Rattle.word_model.specs.declared.events.BoardEvent.TheVariants.{Claim, Offer};
+ghost use Rattle.word_model.specs.declared.events.Standing.TheVariants.{Taken, Published};
 
-pub use events::{BoardEvent, Claimed, Standing};
 use logged::Logged;
 use run_records::Job;
 use std::alloc::{AllocError, Global};
 use std::marker::Model;
+pub use word_model::events::{BoardEvent, Claimed, Standing};
 
-mod events;
 mod logged;
 #[cfg(test)]
 mod tests;

@@ -6,15 +6,15 @@ ghost use Rattle.word_model.specs.Jobs.{same_job};
 ghost use Rattle.pair_strategy.specs.Queues.{IsSet};
 ghost use Rattle.board.specs.Boards.{standing, hand, closed, offered, claimed, claim_events, leave_events, take_events, close_events, left_standing, leaving, place_of, unless_taken as left_at};
 ghost use Rattle.board.specs.Logs.{Distinct, IsAtPlace};
-ghost use Rattle.board.specs.declared.events.BoardEvent.TheVariants.{Claim, Offer};
-ghost use Rattle.board.specs.declared.events.Standing.TheVariants.{Offered, Taken, Published};
+ghost use Rattle.word_model.specs.declared.events.BoardEvent.TheVariants.{Claim, Offer};
+ghost use Rattle.word_model.specs.declared.events.Standing.TheVariants.{Offered, Taken, Published};
 ghost use Rattle.board.specs.declared.logged.Item.{Item};
 ghost use Rattle.word_model.specs.declared.records.Job.{Job};
 
-use crate::events::{BoardEvent, Claimed, Standing};
 use run_records::Job;
 use std::alloc::{AllocError, Global};
 use std::marker::Model;
+use word_model::events::{BoardEvent, Claimed, Standing};
 
 // A job on the board.
 #[derive(Clone, Copy)]

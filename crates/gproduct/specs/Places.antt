@@ -2,7 +2,7 @@
 use Rattle.std.specs.Prelude.{ℕ, ◌+◌, ◌-◌, ◌*◌, ◌/◌, ◌<◌, ◌≤◌, ◌++◌, replicate}
 use Rattle.monomials.specs.Polynomials.{Polynomial}
 use Rattle.word_model.specs.Words.{Algebra, Word, normal_form, pair_index}
-use Rattle.gproduct.specs.declared.place.Place.{Place}
+use Rattle.word_model.specs.declared.events.Place.{Place}
 
 -- a place of an algebra: i < j are numbers of variables, and both exponents are from 1 to 16
 pub record IsPlace (A : Algebra) (place : Place) : Type 0 where

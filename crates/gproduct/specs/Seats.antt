@@ -2,7 +2,7 @@
 use Rattle.std.specs.Prelude.{◌≡◌, List, Option, Some, None, slice_index_or}
 use Rattle.word_model.specs.Words.{Algebra}
 use Rattle.gproduct.specs.Places.{place_value, cell_of}
-use Rattle.gproduct.specs.declared.place.Place.{Place}
+use Rattle.word_model.specs.declared.events.Place.{Place}
 use Rattle.gproduct.specs.declared.seat.Learned.{Learned}
 use Rattle.gproduct.specs.declared.seat.Learned.TheVariants.{Shared, Own}
 

@@ -3,12 +3,12 @@
 ghost use Rattle.std.specs.Prelude.{◌≡◌, ◌+◌, ◌<◌, ◌≤◌, ◌++◌, replicate, IfOk};
 ghost use Rattle.gpoly.specs.Terms.{pairs_of};
 ghost use Rattle.word_model.specs.Words.{Algebra as GAlgebra, normal_form};
-ghost use Rattle.gproduct.specs.declared.place.Place.{Place};
+ghost use Rattle.word_model.specs.declared.events.Place.{Place};
 
-use crate::place::Place;
 use algebra::Algebra;
 use gpoly::Term;
 use std::alloc::{AllocError, Global};
+use word_model::events::Place;
 
 /// Exchanges powers of two variables of an algebra.
 pub(crate) trait Exchange {

@@ -12,7 +12,7 @@ use crate::exchange::Exchange;
 use crate::kinds::kind_at;
 use crate::multiplying::crossed_times;
 use crate::pending::Pending;
-use crate::place::Place;
+use crate::place::swap_of;
 use crate::powers::{cut, formula_terms, put};
 use crate::seat::TableSeat;
 use crate::swap::{Swap, letters_product};
@@ -20,6 +20,7 @@ use algebra::Algebra;
 use closed_forms::PairKind;
 use gpoly::{GPoly, Term};
 use std::alloc::{AllocError, Global};
+use word_model::events::Place;
 
 /// Exchanges powers by closed forms and the relations alone.
 #[derive(Drop)]
@@ -194,7 +195,7 @@ fn known_part(alloc: Global, seat: &TableSeat, place: Place) -> Result<(u16, GPo
             return Ok((u16::from(smaller.a), value.copy(alloc)?));
         }
     }
-    let power = place.swap().power_right(alloc, seat.algebra())?;
+    let power = swap_of(place).power_right(alloc, seat.algebra())?;
     Ok((0, power))
 }
 
@@ -208,8 +209,8 @@ pub(crate) fn first_value(
     ensures { IfOk result (λ r. r ≡ place_value seat.now.algebra place) }
 {
     if let Some(kind) = seat.kind(place.i, place.j) {
-        return place.swap().by_formula(alloc, seat.algebra(), &kind);
+        return swap_of(place).by_formula(alloc, seat.algebra(), &kind);
     }
     let (count, value) = known_part(alloc, seat, place)?;
-    raised(alloc, &mut Known { seat }, place.swap(), count, value)
+    raised(alloc, &mut Known { seat }, swap_of(place), count, value)
 }

@@ -22,8 +22,9 @@ mod table;
 #[cfg(test)]
 mod tests;
 
-pub use place::{Place, value_of};
+pub use place::value_of;
 pub use products::{right_times, term_times, times};
 pub use seat::{Learned, TableSeat};
 pub use steps::Steps;
 pub use table::Table;
+pub use word_model::events::Place;

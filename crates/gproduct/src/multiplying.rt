@@ -8,7 +8,7 @@ ghost use Rattle.gpoly.specs.Terms.{pairs_of};
 ghost use Rattle.word_model.specs.Products.{product};
 ghost use Rattle.word_model.specs.Words.{word_value};
 ghost use Rattle.gproduct.specs.Inside.Factors.{AreTerms, IsCrossing, IsReady, IsExchange, ProductSum, factor_count, products_in, words_of};
-ghost use Rattle.gproduct.specs.declared.place.Place.{Place};
+ghost use Rattle.word_model.specs.declared.events.Place.{Place};
 
 use crate::exchange::Exchange;
 use crate::front::{Crossing, Front, join_front};

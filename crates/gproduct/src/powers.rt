@@ -11,7 +11,7 @@ ghost use Rattle.gproduct.specs.Seats.{Knows, Keeps};
 ghost use Rattle.gproduct.specs.Inside.Swaps.{IsSwap, swap_word};
 
 use crate::exchange::Exchange;
-use crate::place::{MOST_EXPONENT, Place};
+use crate::place::MOST_EXPONENT;
 use crate::seat::{Learned, TableSeat};
 use crate::swap::Swap;
 use algebra::Algebra;
@@ -20,6 +20,7 @@ use gpoly::{GPoly, Term};
 use monomials::Expo;
 use prime_field::Field;
 use std::alloc::{AllocError, Global};
+use word_model::events::Place;
 
 /// The product x_j^a' x_i^b' for exponents a' up to a and b' up to b, as great as a closed form or a
 /// place has them at once. Its terms are put into `terms`, in place of what was there.

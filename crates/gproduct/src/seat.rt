@@ -5,11 +5,11 @@ ghost use Rattle.closed_forms.specs.Kinds.{HasKind};
 ghost use Rattle.gproduct.specs.Inside.Passing.{Passes};
 ghost use Rattle.gproduct.specs.Places.{IsPlace, place_value, cell_count};
 ghost use Rattle.gproduct.specs.Seats.{Knows, Keeps, Teaches};
-ghost use Rattle.gproduct.specs.declared.place.Place.{Place};
+ghost use Rattle.word_model.specs.declared.events.Place.{Place};
 ghost use Rattle.gproduct.specs.declared.seat.Learned.TheVariants.{Shared};
 
 use crate::first::first_value;
-use crate::place::{Place, same_place};
+use crate::place::{cell, same_place};
 use crate::table::{Filled, Table};
 use algebra::Algebra;
 use closed_forms::PairKind;
@@ -17,6 +17,7 @@ use gpoly::GPoly;
 use monomials::Expo;
 use std::alloc::{AllocError, Global};
 use std::marker::Model;
+use word_model::events::Place;
 
 /// What `learn` answers.
 #[derive(Debug, Drop)]
@@ -85,7 +86,7 @@ impl<'t, 'r> TableSeat<'t, 'r> {
             (λ value. Knows self.now place × (value.now ≡ place_value self.now.algebra place)) }
     {
         let n = self.algebra().n();
-        let slot = self.seen.get(place.cell(n))?;
+        let slot = self.seen.get(cell(place, n))?;
         let found = slot.cell?;
         if same_place(found.place, place) {
             Some(&found.value)
@@ -152,7 +153,7 @@ impl<'t, 'r> TableSeat<'t, 'r> {
         ensures slots { length self.new.seen ≡ length self.old.seen }
         ensures noted { IsTrue result → Knows self.new found.now.place }
     {
-        let index = found.place.cell(self.algebra().n());
+        let index = cell(found.place, self.algebra().n());
         let is_free = is_free(&self.seen, index);
         if is_free {
             fill_slot(&mut self.seen, index, found);

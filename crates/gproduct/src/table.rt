@@ -7,7 +7,7 @@ ghost use Rattle.gproduct.specs.Places.{IsPlace, place_value, cell_count};
 
 use crate::kinds::{kept_kind, kinds_of};
 use crate::pairs::{Pair, noncommuting, none_meets};
-use crate::place::{Place, same_place};
+use crate::place::{cell, same_place};
 use algebra::Algebra;
 use closed_forms::PairKind;
 use gpoly::GPoly;
@@ -15,6 +15,7 @@ use monomials::Expo;
 use once_cell::race::OnceBox;
 use std::alloc::{AllocError, Global};
 use std::marker::Model;
+use word_model::events::Place;
 
 // What a cell holds: a place with its value in the algebra that it carries.
 #[derive(Drop)]
@@ -107,7 +108,7 @@ impl<'r> Table<'r> {
         ensures place { IfSome result (λ f. f.now.place ≡ place) }
         ensures algebra { IfSome result (λ f. f.now.algebra.now ≡ self.now) }
     {
-        let cell = self.cells.get(place.cell(self.algebra.n()))?;
+        let cell = self.cells.get(cell(place, self.algebra.n()))?;
         let found = cell.get()?;
         if found.is_of(place, self.algebra) {
             Some(found)
@@ -129,7 +130,7 @@ impl<'r> Table<'r> {
         ensures place { IfOk result (λ o. IfSome o (λ f. f.now.place ≡ place)) }
         ensures algebra { IfOk result (λ o. IfSome o (λ f. f.now.algebra.now ≡ self.now)) }
     {
-        let Some(cell) = self.cells.get(place.cell(self.algebra.n())) else {
+        let Some(cell) = self.cells.get(cell(place, self.algebra.n())) else {
             return Ok(None);
         };
         let algebra = self.algebra;

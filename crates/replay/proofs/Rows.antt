@@ -14,14 +14,14 @@ use Rattle.word_model.specs.declared.records.Mode.TheVariants.{Left}
 use Rattle.word_model.specs.declared.records.Entry.TheVariants.{New}
 use Rattle.word_model.specs.declared.records.Outcome.TheVariants.{Finished, BudgetSpent}
 use Rattle.run_records.specs.Ahead.{ReducedStart}
-use Rattle.gproduct.specs.declared.place.Place.{Place}
-use Rattle.board.specs.declared.events.Standing.TheVariants.{Held, Published, Released, Taken}
-use Rattle.board.specs.declared.events.BoardEvent.{BoardEvent}
-use Rattle.board.specs.declared.events.BoardEvent.TheVariants.{Offer, Claim, Publish, Release, Take, Close}
-use Rattle.board.specs.declared.events.Claimed.TheVariants.{Closed, NoneNow, Job as Gets}
+use Rattle.word_model.specs.declared.events.Place.{Place}
+use Rattle.word_model.specs.declared.events.Standing.TheVariants.{Held, Published, Released, Taken}
+use Rattle.word_model.specs.declared.events.BoardEvent.{BoardEvent}
+use Rattle.word_model.specs.declared.events.BoardEvent.TheVariants.{Offer, Claim, Publish, Release, Take, Close}
+use Rattle.word_model.specs.declared.events.Claimed.TheVariants.{Closed, NoneNow, Job as Gets}
 use Rattle.board.specs.Boards.{standing, hand, closed, offered, next, claimed, claim_events, leave_events, take_events, close_events}
-use Rattle.replay.specs.declared.events.Event.{Event}
-use Rattle.replay.specs.declared.events.Event.TheVariants as event
+use Rattle.word_model.specs.declared.events.Event.{Event}
+use Rattle.word_model.specs.declared.events.Event.TheVariants as event
 use Rattle.replay.specs.Worlds.{CoreWorld, first_world, after_events}
 
 -- ---- a board, call by call: its log, and what the log says

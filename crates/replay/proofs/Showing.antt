@@ -14,11 +14,11 @@ use Rattle.word_model.specs.declared.records.Outcome.{Outcome}
 use Rattle.run_records.specs.Ahead.{ReducedStart}
 use Rattle.pair_strategy.specs.Queues.{keyed_cmp, jobs_in, IsRising, HasKey, SameJobs}
 use Rattle.pair_strategy.specs.declared.keys.Keyed.{Keyed}
-use Rattle.board.specs.declared.events.Standing.{Standing}
-use Rattle.board.specs.declared.events.Standing.TheVariants.{Offered, Held, Published, Released, Taken}
-use Rattle.board.specs.declared.events.BoardEvent.{BoardEvent}
-use Rattle.board.specs.declared.events.BoardEvent.TheVariants.{Offer, Publish, Release}
-use Rattle.replay.specs.declared.events.Hand.{Hand}
+use Rattle.word_model.specs.declared.events.Standing.{Standing}
+use Rattle.word_model.specs.declared.events.Standing.TheVariants.{Offered, Held, Published, Released, Taken}
+use Rattle.word_model.specs.declared.events.BoardEvent.{BoardEvent}
+use Rattle.word_model.specs.declared.events.BoardEvent.TheVariants.{Offer, Publish, Release}
+use Rattle.word_model.specs.declared.events.Hand.{Hand}
 use Rattle.commit_core.specs.declared.lead.Committed.{Committed}
 use Rattle.commit_core.specs.declared.lead.Committed.TheVariants.{Added, Over as Ended}
 use Rattle.board.specs.Boards.{BoardValue, standing, closed, hand, offered, take_events, leave_events, place_of}
@@ -27,7 +27,7 @@ use Rattle.replay.specs.Fit.{IsFit}
 use Rattle.word_model.specs.declared.records.Mode.{Mode}
 use Rattle.replay.proofs.Worlds.{hand_at-is, fit-act, fit-first}
 use Rattle.commit_core.proofs.Running.{same-run}
-use Rattle.replay.specs.declared.events.Event.{Event}
+use Rattle.word_model.specs.declared.events.Event.{Event}
 use Rattle.word_model.specs.Conditions.{IsGAlgebra}
 use Rattle.commit_core.specs.Leads.{Run, IsLead, IsAt, IsSameRun, IsCommit, run_step, keyed}
 use Rattle.replay.specs.Worlds.{CoreWorld, first_world, after_event, after_events, take_job, take_first, after_commit, commits, offer_first, off_board, offers, is_off, without_hand, hand_at, held_job, last_seat, keep, publish_spec, publish_hand, release_hand, spec_of}

@@ -17,16 +17,16 @@ use Rattle.word_model.proofs.Steps.{Each-filter, IsTreated-longer, first_state-i
 use Rattle.word_model.proofs.JobLists.{same_job-is, same_job-itself}
 use Rattle.pair_strategy.proofs.Least.{Each-queued}
 use Rattle.run_records.specs.Ahead.{ReducedStart}
-use Rattle.gproduct.specs.declared.place.Place.{Place}
-use Rattle.board.specs.declared.events.Standing.{Standing}
-use Rattle.board.specs.declared.events.Standing.TheVariants.{Offered, Held, Published, Released, Taken}
-use Rattle.board.specs.declared.events.BoardEvent.{BoardEvent}
-use Rattle.board.specs.declared.events.BoardEvent.TheVariants.{Offer, Claim, Publish, Release, Take, Close}
-use Rattle.board.specs.declared.events.Claimed.{Claimed}
-use Rattle.board.specs.declared.events.Claimed.TheVariants.{Closed, NoneNow, Job as Gets}
-use Rattle.replay.specs.declared.events.Event.{Event}
-use Rattle.replay.specs.declared.events.Event.TheVariants.{Offer as Offers, Claim as Claims, Fill as Fills, Publish as Publishes, Release as Releases, Take as Takes, Commit as Commits, Close as Closes}
-use Rattle.replay.specs.declared.events.Hand.{Hand}
+use Rattle.word_model.specs.declared.events.Place.{Place}
+use Rattle.word_model.specs.declared.events.Standing.{Standing}
+use Rattle.word_model.specs.declared.events.Standing.TheVariants.{Offered, Held, Published, Released, Taken}
+use Rattle.word_model.specs.declared.events.BoardEvent.{BoardEvent}
+use Rattle.word_model.specs.declared.events.BoardEvent.TheVariants.{Offer, Claim, Publish, Release, Take, Close}
+use Rattle.word_model.specs.declared.events.Claimed.{Claimed}
+use Rattle.word_model.specs.declared.events.Claimed.TheVariants.{Closed, NoneNow, Job as Gets}
+use Rattle.word_model.specs.declared.events.Event.{Event}
+use Rattle.word_model.specs.declared.events.Event.TheVariants.{Offer as Offers, Claim as Claims, Fill as Fills, Publish as Publishes, Release as Releases, Take as Takes, Commit as Commits, Close as Closes}
+use Rattle.word_model.specs.declared.events.Hand.{Hand}
 use Rattle.board.specs.Boards.{standing, closed, next, is_offered, offered, claimed, claim_of, place_of, close_events, hand, if_seat}
 use Rattle.commit_core.specs.Named.{IsNamed}
 use Rattle.commit_core.specs.Specs.{IsGood, IsAhead, names_within, spec_from}

@@ -1,8 +1,8 @@
 -- How a world of the program stands to one of the definitions.
 use Rattle.std.specs.Prelude.{◌≡◌, List, Option}
 use Rattle.run_records.specs.Ahead.{ReducedStart}
-use Rattle.gproduct.specs.declared.place.Place.{Place}
-use Rattle.replay.specs.declared.events.Hand.{Hand}
+use Rattle.word_model.specs.declared.events.Place.{Place}
+use Rattle.word_model.specs.declared.events.Hand.{Hand}
 use Rattle.board.specs.Boards.{BoardValue}
 use Rattle.commit_core.specs.Leads.{Run, IsAt}
 use Rattle.replay.specs.Worlds.{CoreWorld, last_seat}

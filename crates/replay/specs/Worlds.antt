@@ -9,16 +9,16 @@ use Rattle.word_model.specs.declared.records.Job.{Job}
 use Rattle.word_model.specs.declared.records.Mode.{Mode}
 use Rattle.word_model.specs.declared.records.Outcome.{Outcome}
 use Rattle.run_records.specs.Ahead.{ReducedStart}
-use Rattle.gproduct.specs.declared.place.Place.{Place}
-use Rattle.board.specs.declared.events.Standing.{Standing}
-use Rattle.board.specs.declared.events.Standing.TheVariants.{Offered, Held, Published, Released, Taken}
-use Rattle.board.specs.declared.events.BoardEvent.{BoardEvent}
-use Rattle.board.specs.declared.events.BoardEvent.TheVariants.{Offer, Claim, Publish, Release, Take}
-use Rattle.board.specs.declared.events.Claimed.{Claimed}
-use Rattle.board.specs.declared.events.Claimed.TheVariants.{Closed, NoneNow, Job as Gets}
-use Rattle.replay.specs.declared.events.Event.{Event}
-use Rattle.replay.specs.declared.events.Event.TheVariants.{Offer as Offers, Claim as Claims, Fill as Fills, Publish as Publishes, Release as Releases, Take as Takes, Commit as Commits, Close as Closes}
-use Rattle.replay.specs.declared.events.Hand.{Hand}
+use Rattle.word_model.specs.declared.events.Place.{Place}
+use Rattle.word_model.specs.declared.events.Standing.{Standing}
+use Rattle.word_model.specs.declared.events.Standing.TheVariants.{Offered, Held, Published, Released, Taken}
+use Rattle.word_model.specs.declared.events.BoardEvent.{BoardEvent}
+use Rattle.word_model.specs.declared.events.BoardEvent.TheVariants.{Offer, Claim, Publish, Release, Take}
+use Rattle.word_model.specs.declared.events.Claimed.{Claimed}
+use Rattle.word_model.specs.declared.events.Claimed.TheVariants.{Closed, NoneNow, Job as Gets}
+use Rattle.word_model.specs.declared.events.Event.{Event}
+use Rattle.word_model.specs.declared.events.Event.TheVariants.{Offer as Offers, Claim as Claims, Fill as Fills, Publish as Publishes, Release as Releases, Take as Takes, Commit as Commits, Close as Closes}
+use Rattle.word_model.specs.declared.events.Hand.{Hand}
 use Rattle.board.specs.Boards.{standing, closed, offered, claimed, place_of, close_events, hand}
 use Rattle.commit_core.specs.Specs.{IsGood, spec_over}
 use Rattle.commit_core.specs.Leads.{IsPart, job_of}

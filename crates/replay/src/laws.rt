@@ -4,7 +4,7 @@ ghost use Rattle.std.specs.Prelude.{ℕ, List};
 ghost use Rattle.monomials.specs.Polynomials.{Each, IsPolynomial};
 ghost use Rattle.word_model.specs.declared.records.Mode.{Mode};
 ghost use Rattle.replay.specs.Worlds.{first_world, after_events, IsSound};
-ghost use Rattle.replay.specs.declared.events.Event.{Event};
+ghost use Rattle.word_model.specs.declared.events.Event.{Event};
 
 use algebra::Algebra;
 use gpoly::GPoly;

@@ -8,15 +8,14 @@ ghost use Rattle.word_model.specs.Jobs.{same_job};
 ghost use Rattle.gproduct.specs.Seats.{Keeps};
 ghost use Rattle.run_records.specs.Ahead.{ReducedStart};
 ghost use Rattle.board.specs.Boards.{standing, hand, offered, place_of, leave_events};
-ghost use Rattle.board.specs.declared.events.Standing.TheVariants.{Taken};
-ghost use Rattle.replay.specs.declared.events.Event.{Event};
-ghost use Rattle.replay.specs.declared.events.Hand.{Hand};
+ghost use Rattle.word_model.specs.declared.events.Standing.TheVariants.{Taken};
+ghost use Rattle.word_model.specs.declared.events.Event.{Event};
+ghost use Rattle.word_model.specs.declared.events.Hand.{Hand};
 ghost use Rattle.commit_core.specs.Named.{IsNamed};
 ghost use Rattle.commit_core.specs.Leads.{IsSameRun, IsLead};
 ghost use Rattle.replay.specs.Worlds.{CoreWorld, first_world, after_events, after_event, IsSound, offers, claims, fills, publish_hand, release_hand, take_first, commits, hand_at, with_hand, without_hand, is_off, is_place, same_place, spec_of};
 ghost use Rattle.replay.specs.Shown.{Shows, Fits};
 
-use crate::events::{Event, Hand};
 use crate::laws::every_interleaving;
 use algebra::Algebra;
 use board::{Board, Claimed};
@@ -28,6 +27,7 @@ use run_records::{Elements, Job, Mode, Spec};
 use std::alloc::{AllocError, Global};
 use std::marker::{Brand, Model};
 use std::sync::ledger::{Blank, Ledger};
+use word_model::events::{Event, Hand};
 
 /// The greatest seat of a world.
 const LAST_SEAT: u8 = 64;

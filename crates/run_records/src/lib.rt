@@ -49,6 +49,22 @@ impl Model for Finished {
     ghost view = { λ f. record { list = f.list.items; origin = f.origin.items; tails = f.tails.items } };
 }
 
+/// The certificate of a basis: the entries that made its elements, in order, and its finished list.
+/// Who repeats its products sees that each element of the list is in the ideal of the generators.
+#[derive(Debug, Drop)]
+pub struct Chain {
+    pub journal_lines: Vec<Entry>,
+    pub finished: Finished,
+}
+
+impl Model for Chain {
+    ghost use Rattle.word_model.specs.Certificates.{Certificate};
+
+    ghost Value = { Certificate };
+
+    ghost view = { λ c. record { lines = c.journal_lines.items; finished = c.finished } };
+}
+
 /// A row of cofactors: a polynomial for each generator. It stands for the sum of each times its
 /// generator.
 #[derive(Debug, Drop)]

@@ -2,7 +2,7 @@ use Rattle.std.proofs.Common.{◌≡◌, ◌++◌, map, length, replicate, None,
 use Rattle.monomials.specs.Polynomials.{Each}
 use Rattle.board.specs.Boards.{standing, BoardValue}
 use Rattle.board.specs.Logs.{LogValue}
-use Rattle.board.specs.declared.events.BoardEvent.TheVariants.{Offer}
+use Rattle.word_model.specs.declared.events.BoardEvent.TheVariants.{Offer}
 use Rattle.board.proofs.Keeping.{keeps_offers}
 use Rattle.board.proofs.Board.offer.Goals as goal
 

@@ -1,5 +1,5 @@
 use Rattle.std.proofs.Common.{◌≡◌, ◌≢◌, Some, IsSome, IfSome, MatchOption, sym, subst}
-use Rattle.board.specs.declared.events.Standing.TheVariants.{Taken}
+use Rattle.word_model.specs.declared.events.Standing.TheVariants.{Taken}
 use Rattle.board.specs.Boards.{hand, standing, offered, place_of, BoardValue}
 use Rattle.board.specs.Logs.{IsAtPlace}
 use Rattle.board.proofs.Keeping.{keeps_put, keeps_gone}

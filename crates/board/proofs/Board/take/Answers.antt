@@ -1,5 +1,5 @@
 use Rattle.std.proofs.Common.{◌≡◌, ◌∷◌, ◌++◌, [], None, IsSome, slice_index_or, slice_set, sym, ap, ◌∙◌, subst, arith}
-use Rattle.board.specs.declared.events.BoardEvent.TheVariants.{Take}
+use Rattle.word_model.specs.declared.events.BoardEvent.TheVariants.{Take}
 use Rattle.board.specs.Boards.{standing, offered, take_events, place_of, BoardValue}
 use Rattle.board.specs.Logs.{Keeps}
 use Rattle.board.proofs.Boards.{any_default}

@@ -1,6 +1,6 @@
 use Rattle.std.proofs.Common.{◌≢◌, ◌<◌, slice_index_or, ℕ}
 use Rattle.board.specs.declared.logged.Item.{Item}
-use Rattle.board.specs.declared.events.Standing.TheVariants.{Offered}
+use Rattle.word_model.specs.declared.events.Standing.TheVariants.{Offered}
 use Rattle.board.proofs.logged.first_offered.Given as goal
 
 abbrev pub invariant-loop-k : goal.invariant-loop-k

@@ -1,6 +1,6 @@
 use Rattle.std.proofs.Common.{◌≡◌, length}
 use Rattle.gpoly.specs.Terms.{pairs_of}
-use Rattle.gproduct.specs.declared.place.Place.{Place}
+use Rattle.word_model.specs.declared.events.Place.{Place}
 use Rattle.gproduct.specs.Inside.Factors.{factor_count, products_in, words_of}
 use Rattle.gproduct.proofs.MultipliedOut.{IsMultiplying, sum_measure}
 use Rattle.gproduct.proofs.multiplying.sorted_terms.Given as goal

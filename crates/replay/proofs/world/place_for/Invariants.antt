@@ -1,5 +1,5 @@
 use Rattle.std.proofs.Common.{◌≡◌, ◌++◌, take, drop}
-use Rattle.replay.specs.declared.events.Hand.{Hand}
+use Rattle.word_model.specs.declared.events.Hand.{Hand}
 use Rattle.replay.specs.Worlds.{with_hand}
 use Rattle.replay.proofs.world.place_for.Given as goal
 

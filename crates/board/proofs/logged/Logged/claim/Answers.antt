@@ -1,9 +1,9 @@
 use Rattle.std.proofs.Common.{rules, arith, ◌≡◌, ◌<◌, slice_index_or, length, sym, ◌∙◌, ap, subst, Some, vec_len, vec_capacity}
 use Rattle.std.proofs.lemmas.List.{append-nil, length-set}
 use Rattle.board.specs.declared.logged.Item.{Item}
-use Rattle.board.specs.declared.events.Claimed.TheVariants.{NoneNow, Job as Gets}
+use Rattle.word_model.specs.declared.events.Claimed.TheVariants.{NoneNow, Job as Gets}
 use Rattle.board.specs.Boards.{claimed}
-use Rattle.board.specs.declared.events.Standing.TheVariants.{Offered}
+use Rattle.word_model.specs.declared.events.Standing.TheVariants.{Offered}
 use Rattle.board.specs.Logs.{LogValue}
 use Rattle.board.specs.Boards.{hand}
 use Rattle.board.proofs.Boards.{claimed-none, claimed-some, claim_fits, fits_grows, any_default}

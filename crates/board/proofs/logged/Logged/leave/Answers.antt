@@ -3,7 +3,7 @@ use Rattle.std.proofs.lemmas.List.{length-set}
 use Rattle.word_model.specs.Jobs.{same_job}
 use Rattle.word_model.proofs.JobLists.{same_job-is, same_job-itself}
 use Rattle.board.specs.declared.logged.Item.{Item}
-use Rattle.board.specs.declared.events.Standing.TheVariants.{Taken}
+use Rattle.word_model.specs.declared.events.Standing.TheVariants.{Taken}
 use Rattle.board.specs.Logs.{LogValue, Distinct}
 use Rattle.board.specs.Logs.{IsAtPlace}
 use Rattle.board.specs.Boards.{hand, standing, offered, unless_taken, place_of}

@@ -5,7 +5,7 @@ use Rattle.word_model.specs.declared.records.Job.{Job}
 use Rattle.pair_strategy.specs.Queues.{IsSet}
 use Rattle.board.specs.Boards.{standing, closed}
 use Rattle.board.specs.Logs.{Fits, LogValue}
-use Rattle.board.specs.declared.events.BoardEvent.TheVariants.{Offer}
+use Rattle.word_model.specs.declared.events.BoardEvent.TheVariants.{Offer}
 use Rattle.board.proofs.Boards.{wide_fits, offer_fits, fits_grows}
 use Rattle.board.proofs.Keeping.{fresh-on}
 use Rattle.board.proofs.logged.Logged.offer.Goals as goal

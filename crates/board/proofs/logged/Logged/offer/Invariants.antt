@@ -3,7 +3,7 @@ use Rattle.monomials.specs.Polynomials.{Each}
 use Rattle.pair_strategy.specs.Queues.{IsSet}
 use Rattle.board.specs.Boards.{standing}
 use Rattle.board.specs.Logs.{Fits}
-use Rattle.board.specs.declared.events.BoardEvent.TheVariants.{Offer}
+use Rattle.word_model.specs.declared.events.BoardEvent.TheVariants.{Offer}
 use Rattle.board.proofs.logged.Logged.offer.Given as goal
 
 abbrev pub invariant-loop-k : goal.invariant-loop-k

@@ -3,7 +3,7 @@ use Rattle.std.proofs.lemmas.List.{append-nil}
 use Rattle.word_model.specs.Jobs.{same_job}
 use Rattle.word_model.proofs.JobLists.{same_job-is}
 use Rattle.board.specs.declared.logged.Item.{Item}
-use Rattle.board.specs.declared.events.Standing.TheVariants.{Published, Taken}
+use Rattle.word_model.specs.declared.events.Standing.TheVariants.{Published, Taken}
 use Rattle.board.specs.Logs.{LogValue}
 use Rattle.board.specs.Logs.{IsAtPlace}
 use Rattle.board.specs.Boards.{standing, offered, place_of}

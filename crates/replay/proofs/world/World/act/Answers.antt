@@ -1,5 +1,5 @@
 use Rattle.std.proofs.Common.{OnOk, sym, subst}
-use Rattle.replay.specs.declared.events.Event.{Event}
+use Rattle.word_model.specs.declared.events.Event.{Event}
 use Rattle.replay.specs.Worlds.{CoreWorld, after_event}
 use Rattle.replay.specs.Shown.{Shows, Fits}
 use Rattle.replay.proofs.world.World.act.Goals as goal

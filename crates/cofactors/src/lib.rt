@@ -22,7 +22,7 @@ mod checking;
 mod finishing;
 pub mod making;
 pub mod multiples;
-mod pairs;
+pub mod pairs;
 mod pushing;
 #[cfg(test)]
 mod tests;

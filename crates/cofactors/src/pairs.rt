@@ -16,10 +16,10 @@ use monomials::Expo;
 use std::alloc::Global;
 use std::sync::ledger::Ledger;
 
-// The terms by which the S-polynomial of two elements multiplies the first and the second: they
-// bring the leading monomials to their least common multiple, and the leading terms cancel. The
-// products of the elements are within the limit of degrees, so `DegreeOver` never comes.
-pub(crate) fn pair_terms<L: Ledger>(
+/// The terms by which the S-polynomial of two elements multiplies the first and the second: they
+/// bring the leading monomials to their least common multiple, and the leading terms cancel. The
+/// products of the elements are within the limit of degrees, so `DegreeOver` never comes.
+pub fn pair_terms<L: Ledger>(
     alloc: Global,
     seat: &mut TableSeat,
     f: &GPoly,

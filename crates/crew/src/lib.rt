@@ -1,0 +1,11 @@
+//! Workers round a board, and the thread that leads them: what they share, and what passes between
+//! them.
+#![tactic(auto)]
+
+pub use gates::{Gate, MeetGate, NoGate, Point};
+pub use sealed::Sealed;
+pub use shelf::{Shelf, ShelfView};
+
+mod gates;
+mod sealed;
+mod shelf;

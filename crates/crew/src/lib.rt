@@ -2,10 +2,12 @@
 //! them.
 #![tactic(auto)]
 
+pub use engines::{By, Crew, crew_basis};
 pub use gates::{Gate, MeetGate, NoGate, Point};
 pub use sealed::Sealed;
 pub use shelf::{Shelf, ShelfView};
 
+mod engines;
 mod gates;
 mod sealed;
 mod shelf;

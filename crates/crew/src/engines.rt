@@ -3,15 +3,21 @@
 ghost use Rattle.std.specs.Prelude.{◌≡◌, ◌≤◌, IfOk, length};
 ghost use Rattle.std.specs.Thread.{IsSync};
 ghost use Rattle.monomials.specs.Polynomials.{Each, IsPolynomial};
+ghost use Rattle.word_model.specs.Words.{Algebra};
 ghost use Rattle.word_model.specs.Bases.{RunLaws};
 ghost use Rattle.word_model.specs.Machine.{machine};
 
+use crate::desk::Desk;
 use crate::gates::{Gate, MeetGate, NoGate};
+use crate::shelf::Shelf;
 use algebra::Algebra;
+use commit_core::Lead;
 use gpoly::GPoly;
+use gproduct::Table;
 use run_records::{Engine, Journal, Mode, runs_have_laws};
 use std::alloc::{AllocError, Global};
 use std::sync::Wait;
+use std::thread;
 use std::thread::Threads;
 
 /// The journal of the machine, made by a leader on this thread and this many workers, 1 to 64, on
@@ -19,10 +25,10 @@ use std::thread::Threads;
 /// `Engine::basis`. Under `Wait`. A worker that can't be started is one worker fewer: the leader does
 /// the work itself. No result depends on `gate`.
 pub fn crew_basis<R: Threads + Wait + Sync, G: Gate + Sync>(
-    _rt: &R,
-    _alloc: Global,
-    _workers: u8,
-    _gate: &G,
+    rt: &R,
+    alloc: Global,
+    workers: u8,
+    gate: &G,
     alg: &Algebra,
     gens: &[GPoly],
     mode: Mode,
@@ -34,7 +40,63 @@ pub fn crew_basis<R: Threads + Wait + Sync, G: Gate + Sync>(
     ensures value { IfOk result (λ j. j ≡ machine alg.now gens.now mode budget) }
     ensures run { IfOk result (λ j. RunLaws alg.now mode gens.now j) }
 {
-    Err(AllocError)
+    runs_have_laws(alg, gens);
+    let table = Table::new(alloc, alg)?;
+    let shelf = Shelf::new(alloc)?;
+    let lead = Lead::new(alloc, alg, gens, mode, budget)?;
+    let desk = Desk::new(alloc, alg, &table, &shelf, gens, gate, workers)?;
+    crowd(rt, alloc, &desk, workers, lead)
+}
+
+// A place where workers work and one thread leads: a desk, whatever it borrows. The closure of a
+// scope keeps its contract only where what it captures is of a type parameter.
+trait Workplace {
+    // The algebra that it is over.
+    ghost over: { Self → Algebra };
+
+    fn work<R: Wait>(&self, rt: &R, alloc: Global, w: u8);
+
+    fn lead<R: Wait>(&self, rt: &R, alloc: Global, lead: Lead) -> Result<Journal, AllocError>
+        requires algebra { lead.algebra ≡ over self.now }
+        ensures { IfOk result (λ journal. journal ≡ machine lead.algebra lead.generators lead.mode lead.budget) };
+}
+
+impl<'s, 'r, G: Gate> Workplace for Desk<'s, 'r, G> {
+    ghost over = { λ d. d.algebra };
+
+    fn work<R: Wait>(&self, rt: &R, alloc: Global, w: u8) {
+        Desk::work(self, rt, alloc, w);
+    }
+
+    fn lead<R: Wait>(&self, rt: &R, alloc: Global, lead: Lead) -> Result<Journal, AllocError> {
+        Desk::lead(self, rt, alloc, lead)
+    }
+}
+
+// Starts workers and leads them. One that can't be started is one fewer.
+fn crowd<R: Threads + Wait + Sync, D: Workplace + Sync>(
+    rt: &R,
+    alloc: Global,
+    desk: &D,
+    workers: u8,
+    lead: Lead,
+) -> Result<Journal, AllocError>
+    requires algebra { lead.algebra ≡ D.over desk.now }
+    ensures { IfOk result (λ journal. journal ≡ machine lead.algebra lead.generators lead.mode lead.budget) }
+{
+    thread::scope(
+        thread::scope_env(),
+        rt,
+        move |scope| -> Result<Journal, AllocError>
+            requires { lead.algebra ≡ D.over desk.now }
+            ensures { IfOk result (λ journal. journal ≡ machine lead.algebra lead.generators lead.mode lead.budget) }
+        {
+            for w in 1..=workers {
+                let _ = scope.spawn(move || desk.work(rt, alloc, w));
+            }
+            desk.lead(rt, alloc, lead)
+        },
+    )
 }
 
 /// An engine with workers beside the leading thread. It keeps nothing between runs.

@@ -2,12 +2,15 @@
 //! them.
 #![tactic(auto)]
 
+pub use desk::Desk;
 pub use engines::{By, Crew, crew_basis};
 pub use gates::{Gate, MeetGate, NoGate, Point};
 pub use sealed::Sealed;
 pub use shelf::{Shelf, ShelfView};
 
+mod desk;
 mod engines;
 mod gates;
+mod locked;
 mod sealed;
 mod shelf;

@@ -1,6 +1,6 @@
 use Rattle.std.proofs.Common.{Err, sym, subst, ap, arith}
 use Rattle.script_model.specs.Scripts.{IsAnswer, too_long}
-use Rattle.plural_one.proofs.run.reply_to_source.Goals as goal
+use Rattle.program_run.proofs.replies.reply_to_source.Goals as goal
 
 pub returns-in_ok-too_long-in-Err-TooLong-clause-reply : goal.returns-in_ok-too_long-in-Err-TooLong-clause-reply
 returns-in_ok-too_long-in-Err-TooLong-clause-reply g c =

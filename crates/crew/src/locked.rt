@@ -1,10 +1,8 @@
 //! What leader and workers do to the board while they have its lock. What the lock keeps is known by
 //! its type alone, so each of these first looks at what the call that it makes rests on.
 
-ghost use Rattle.std.specs.Prelude.{◌≡◌, ◌++◌, IsTrue, IfSome, Some, true, false};
-ghost use Rattle.board.specs.Boards.{standing, hand, claimed, claim_events, leave_events};
-ghost use Rattle.board.specs.Boards.{closed};
-ghost use Rattle.word_model.specs.declared.events.Standing.{Standing};
+ghost use Rattle.std.specs.Prelude.{◌≡◌, ◌++◌, IsTrue, Some, true, false};
+ghost use Rattle.board.specs.Boards.{hand, claim_events, leave_events};
 
 use board::{Board, Claimed, Standing};
 use run_records::Job;
@@ -29,7 +27,9 @@ pub(crate) fn offer_new<P: Drop>(
 
 /// Event `Claim`, where there is such a seat and its hand is empty. `Closed` where there isn't, or it
 /// isn't: then the hand is not as its holder left it, and its holder ends.
-pub(crate) fn claim<P: Drop>(board: &mut Board<P>, seat: u8) -> Claimed {
+pub(crate) fn claim<P: Drop>(board: &mut Board<P>, seat: u8) -> Claimed
+    ensures log { board.new.log ≡ board.old.log ++ claim_events seat result }
+{
     if seat <= board.seats() && board.hand(seat).is_none() {
         board.claim(seat)
     } else {
@@ -38,7 +38,10 @@ pub(crate) fn claim<P: Drop>(board: &mut Board<P>, seat: u8) -> Claimed {
 }
 
 /// Event `Publish`, where the hand of the seat has this job. Answers whether it had.
-pub(crate) fn publish<P: Drop>(board: &mut Board<P>, seat: u8, job: &Job, payload: P) -> bool {
+pub(crate) fn publish<P: Drop>(board: &mut Board<P>, seat: u8, job: &Job, payload: P) -> bool
+    ensures done { result ≡ true → board.new.log ≡ board.old.log ++ leave_events true seat (Some job.now) }
+    ensures left { result ≡ false → board.new ≡ board.old }
+{
     if !has(board, seat, job) {
         return false;
     }
@@ -47,7 +50,10 @@ pub(crate) fn publish<P: Drop>(board: &mut Board<P>, seat: u8, job: &Job, payloa
 }
 
 /// Event `Release`, where the hand of the seat has this job. Answers whether it had.
-pub(crate) fn release<P: Drop>(board: &mut Board<P>, seat: u8, job: &Job) -> bool {
+pub(crate) fn release<P: Drop>(board: &mut Board<P>, seat: u8, job: &Job) -> bool
+    ensures done { result ≡ true → board.new.log ≡ board.old.log ++ leave_events false seat (Some job.now) }
+    ensures left { result ≡ false → board.new ≡ board.old }
+{
     if !has(board, seat, job) {
         return false;
     }

@@ -176,3 +176,12 @@ fn equal_rows_are_the_same(rt: HostRuntime) -> Result<(), Fail> {
     assert!(rt; !dp.same(&Order::new(alloc, &[Block::DegLex { len: 2 }], 2)?));
     Ok(())
 }
+
+/// Threads may share and send values of this type.
+fn shared<T: Sync + Send>() {}
+
+#[test]
+fn threads_share_monomials_and_orders() {
+    shared::<Expo>();
+    shared::<Order>();
+}

@@ -134,6 +134,7 @@ fn push_seed(queue: &mut Queue, alg: &Algebra, gens: &[GPoly], basis: &Vec<GPoly
     requires elements { basis.now.items ≡ [] }
     requires first { 1 ≤ s }
     requires last { s ≤ length gens.now }
+    requires few { length gens.now ≤ 4096 }
     requires order { queue.old.order ≡ alg.now.order }
     requires spare { 1 ≤ queue.old.spare }
     requires absent { is_queued (jobs_in queue.old.items) (Job.Seed s) ≡ false }
@@ -209,6 +210,7 @@ fn push_pairs(
     requires small { Each (λ n. n ≤ 33554432) sugars.now }
     requires some { 1 ≤ m }
     requires last { m ≡ length basis.now.items }
+    requires few { m ≤ 2048 }
     requires order { queue.old.order ≡ alg.now.order }
     requires spare { m - 1 ≤ queue.old.spare }
     requires absent { (i : ℕ) → is_queued (jobs_in queue.old.items) (Job.Pair i m) ≡ false }
@@ -238,6 +240,7 @@ fn push_rights(
     requires small { Each (λ n. n ≤ 33554432) sugars.now }
     requires some { 1 ≤ m }
     requires last { m ≡ length basis.now.items }
+    requires few { m ≤ 2048 }
     requires order { queue.old.order ≡ alg.now.order }
     requires spare { alg.now.order.vars ≤ queue.old.spare }
     requires absent { (v : ℕ) → is_queued (jobs_in queue.old.items) (Job.Right m v) ≡ false }
@@ -265,6 +268,7 @@ fn push_job(
     requires sugars { AreSugars basis.now.items sugars.now }
     requires small { Each (λ n. n ≤ 33554432) sugars.now }
     requires named { IsNamed alg.now gens.now basis.now.items job }
+    requires range { IsJob 4096 2048 16 job }
     requires order { queue.old.order ≡ alg.now.order }
     requires spare { 1 ≤ queue.old.spare }
     requires absent { is_queued (jobs_in queue.old.items) job ≡ false }

@@ -4,4 +4,9 @@ pub mod Placing
 pub mod Least
 mod Monomials
 mod Witnesses
+mod Places
+mod Heaps
+mod Bits
+mod InOrder
 mod Changes
+mod Fronts

@@ -59,7 +59,7 @@ queued-reverse (k ∷ items) job =
 
 -- ---- sets
 
-same_job-sym : (a b : Job) → same_job a b ≡ same_job b a
+pub same_job-sym : (a b : Job) → same_job a b ≡ same_job b a
 same_job-sym a b = alike (same_job a b) (same_job b a) (turn a b) (turn b a)
   where
     turn : (a b : Job) → same_job a b ≡ true → same_job b a ≡ true

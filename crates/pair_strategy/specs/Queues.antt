@@ -1,5 +1,5 @@
 -- Queues of jobs, as lists in the order of their keys.
-use Rattle.std.specs.Prelude.{◌≡◌, ℕ, false, List, [], ◌∷◌, length, map, if◌then◌else◌}
+use Rattle.std.specs.Prelude.{◌≡◌, ℕ, ◌-◌, ◌/◌, ◌≤◌, false, List, [], ◌∷◌, length, get_or, map, if◌then◌else◌}
 use Rattle.std.specs.declared.cmp.Ordering.{Ordering}
 use Rattle.std.specs.declared.cmp.Ordering.TheVariants.{Less}
 use Rattle.std.specs.Ordering.{nat_cmp, ordering_then, is_lt}
@@ -34,6 +34,10 @@ with_item o a (b ∷ items) = if is_lt (keyed_cmp o a b) then a ∷ b ∷ items 
 abbrev pub IsRising : RowOrder → List Keyed → Type 0
 IsRising o [] = Unit {0}
 IsRising o (a ∷ items) = Each (λ b. keyed_cmp o a b ≡ Less) items × IsRising o items
+
+-- the items are a heap: from the second on, the key of the item number k is greater than that of the one number k / 2
+abbrev pub IsHeap : RowOrder → List Keyed → Type 0
+IsHeap o items = (k : ℕ) (d : Keyed) → 2 ≤ k → k ≤ length items → keyed_cmp o (get_or items (k / 2 - 1) d) (get_or items (k - 1) d) ≡ Less
 
 -- no job stands twice
 abbrev pub IsSet : List Job → Type 0

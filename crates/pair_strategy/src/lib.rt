@@ -5,8 +5,11 @@ pub use keys::{Keyed, element_sugar, job_key};
 pub use queue::Queue;
 pub use witness::chain_witness;
 
+mod front;
+mod heap;
 mod keys;
 pub mod laws;
+mod marks;
 mod queue;
 #[cfg(test)]
 mod tests;

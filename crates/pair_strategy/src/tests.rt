@@ -7,6 +7,7 @@ ghost use Rattle.word_model.specs.Reduction.{element};
 ghost use Rattle.word_model.specs.Jobs.{AreSugars};
 
 use super::*;
+use crate::marks;
 use gpoly::{GPoly, Term};
 use monomials::{Block, Expo, Order};
 use prime_field::Field;
@@ -106,6 +107,9 @@ fn push(alloc: Global, queue: &mut Queue, order: &Order, item: Keyed) -> Result<
     if queue.holds(&item.job) || item.mono.len() != order.vars() {
         return Err("a job is queued once, in the variables of the order".into());
     }
+    if !marks::has_number(&item.job) {
+        return Err("a queued job has numbers in range".into());
+    }
     queue.reserve(alloc, 1)?;
     queue.push(item);
     Ok(())
@@ -120,12 +124,18 @@ fn push_job(text: &mut String, job: &Job) -> Result<(), AllocError> {
     Ok(())
 }
 
-// The jobs that are ahead, and then the same as they are taken.
-fn drain(alloc: Global, queue: &mut Queue, k: usize) -> Result<String, AllocError> {
+// The jobs that are ahead.
+fn ahead(alloc: Global, queue: &Queue, k: usize) -> Result<String, AllocError> {
     let mut text = String::new(alloc);
     for job in &queue.ahead(alloc, k)? {
         push_job(&mut text, job)?;
     }
+    Ok(text)
+}
+
+// The jobs that are ahead, and then the same as they are taken.
+fn drain(alloc: Global, queue: &mut Queue, k: usize) -> Result<String, AllocError> {
+    let mut text = ahead(alloc, queue, k)?;
     text.push_str("taken:\n")?;
     for _ in 0..k {
         if let Some(item) = queue.take_first() {
@@ -238,6 +248,79 @@ fn jobs_go_by_sugars_then_monomials_then_kinds_then_numbers(rt: HostRuntime) -> 
     let mut queue = queued_jobs(alloc, &by_degree(alloc, 2)?, PUSHES)?;
     let text = drain(alloc, &mut queue, 20)?;
     assert_eq!(rt; text.as_str(), TAKES);
+    Ok(())
+}
+
+// Jobs at the limits of their numbers, and then jobs past them.
+fn at_limit(place: u32) -> Job {
+    match place {
+        0 => Job::Right { i: 2048, v: 16 },
+        1 => Job::Pair { i: 2047, j: 2048 },
+        2 => Job::Seed { s: 4096 },
+        3 => Job::Right { i: 1, v: 1 },
+        4 => Job::Pair { i: 1, j: 2 },
+        5 => Job::Seed { s: 1 },
+        6 => Job::Right { i: 2048, v: 17 },
+        7 => Job::Right { i: 2049, v: 16 },
+        8 => Job::Pair { i: 2048, j: 2049 },
+        9 => Job::Pair { i: 0, j: 2048 },
+        10 => Job::Seed { s: 4097 },
+        _ => Job::Seed { s: 0 },
+    }
+}
+
+// A queue of the jobs at the limits, whose keys have one sugar and one monomial.
+fn limits(alloc: Global, order: &Order) -> Result<Queue, Fail>
+    ensures { IfOk result (λ queue. queue.order ≡ order.now) }
+{
+    let mut queue = Queue::new(alloc, order)?;
+    for place in 0..6 {
+        let mono = Expo::of(&[1, 1]);
+        let job = at_limit(place);
+        let sugar = 3;
+        push(alloc, &mut queue, order, Keyed { sugar, mono, job })?;
+    }
+    Ok(queue)
+}
+
+// Which of these jobs are queued, a digit each.
+fn held(alloc: Global, queue: &Queue) -> Result<String, AllocError> {
+    let mut text = String::new(alloc);
+    for place in 0..12 {
+        let digit = if queue.holds(&at_limit(place)) {
+            '1'
+        } else {
+            '0'
+        };
+        text.push(digit)?;
+    }
+    Ok(text)
+}
+
+#[test]
+fn jobs_at_their_limits_have_bits(rt: HostRuntime) -> Result<(), Fail> {
+    let alloc = rt.alloc();
+    let order = by_degree(alloc, 2)?;
+    let mut queue = limits(alloc, &order)?;
+    assert_eq!(rt; queue.heap().len(), 6);
+    assert_eq!(rt; held(alloc, &queue)?.as_str(), "111111000000");
+    queue.take_first();
+    queue.take_first();
+    queue.take_first();
+    assert_eq!(rt; held(alloc, &queue)?.as_str(), "110100000000");
+    Ok(())
+}
+
+const IN_ORDER: &str = "Seed 1\nSeed 4096\nPair 1 2\nPair 2047 2048\nRight 1 1\nRight 2048 16\n";
+
+#[test]
+fn as_many_jobs_are_ahead_as_are_wanted(rt: HostRuntime) -> Result<(), Fail> {
+    let alloc = rt.alloc();
+    let queue = limits(alloc, &by_degree(alloc, 2)?)?;
+    assert_eq!(rt; ahead(alloc, &queue, 0)?.as_str(), "");
+    assert_eq!(rt; ahead(alloc, &queue, 1)?.as_str(), "Seed 1\n");
+    assert_eq!(rt; ahead(alloc, &queue, 6)?.as_str(), IN_ORDER);
+    assert_eq!(rt; ahead(alloc, &queue, 7)?.as_str(), IN_ORDER);
     Ok(())
 }
 

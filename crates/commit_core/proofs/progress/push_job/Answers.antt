@@ -1,7 +1,7 @@
 use Rattle.std.proofs.Common.{sym, ap, ◌∙◌, subst}
 use Rattle.monomials.specs.Orders.{RowOrder}
 use Rattle.monomials.specs.Polynomials.{Each}
-use Rattle.word_model.specs.Jobs.{job_sugar, key_monomial}
+use Rattle.word_model.specs.Jobs.{job_sugar, key_monomial, IsJob}
 use Rattle.pair_strategy.specs.Queues.{HasKey}
 use Rattle.pair_strategy.proofs.Placing.{Each-with_item}
 use Rattle.commit_core.proofs.Bringing.{sorted-vars, elements-vars}
@@ -17,6 +17,9 @@ push-requires-clause-vars c =
     let A = c.args.alg.now in
     c.job_key.ensures.vars A.order.vars (sorted-vars A c.args.gens.now c.requires.generators) (elements-vars A c.args.basis.now.items c.requires.elements)
     ∙ ap (λ (o : RowOrder). o.vars) (sym c.requires.order)
+
+pub push-requires-clause-numbers : goal.push-requires-clause-numbers
+push-requires-clause-numbers c = subst (IsJob 4096 2048 16) (sym c.job_key.ensures.job) c.requires.range
 
 pub returns-clause-keys : goal.returns-clause-keys
 returns-clause-keys c = λ keys. (

@@ -9,6 +9,9 @@ pub push_job-requires-clause-named : goal.push_job-requires-clause-named
 push_job-requires-clause-named c =
     named-pair c.args.alg.now c.args.gens.now c.args.basis.now.items c.loop-i.i c.args.m c.requires.elements c.requires.last c.loop-i.auto.i c.loop-i-test.true
 
+pub push_job-requires-clause-range : goal.push_job-requires-clause-range
+push_job-requires-clause-range c = (c.loop-i.auto.i, c.loop-i-test.true, c.requires.few)
+
 pub push_job-requires-clause-absent : goal.push_job-requires-clause-absent
 push_job-requires-clause-absent c =
     let job = Pair c.loop-i.i c.args.m in

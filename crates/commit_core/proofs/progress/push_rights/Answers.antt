@@ -10,6 +10,14 @@ push_job-requires-clause-named c =
     named-right c.args.alg.now c.args.gens.now c.args.basis.now.items c.args.m c.loop-v.v c.requires.elements c.requires.last c.requires.some c.loop-v.auto.v
     (omega (arith, c.loop-v.auto, c.loop-v-test.true, c.n-v-end.ensures.value, c.n-v-end.ensures.at_most))
 
+pub push_job-requires-clause-range : goal.push_job-requires-clause-range
+push_job-requires-clause-range c = (
+  c.requires.some,
+  c.requires.few,
+  c.loop-v.auto.v,
+  omega (arith, c.loop-v.auto, c.loop-v-test.true, c.n-v-end.ensures.value, c.n-v-end.ensures.at_most),
+)
+
 pub push_job-requires-clause-absent : goal.push_job-requires-clause-absent
 push_job-requires-clause-absent c =
     let job = Right c.args.m c.loop-v.v in

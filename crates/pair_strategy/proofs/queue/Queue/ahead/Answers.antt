@@ -1,10 +1,11 @@
-use Rattle.std.proofs.Common.{◌<◌, ap, ◌∙◌, arith}
-use Rattle.pair_strategy.specs.Queues.{JobQueue}
-use Rattle.pair_strategy.proofs.Changes.{ahead-next}
+use Rattle.std.proofs.Common.{◌≡◌, length}
+use Rattle.pair_strategy.specs.declared.keys.Keyed.{Keyed}
+use Rattle.pair_strategy.proofs.InOrder.{Each-from_order, set-from_order}
 use Rattle.pair_strategy.proofs.queue.Queue.ahead.Goals as goal
 
-pub loop-i-preserved : goal.loop-i-preserved
-loop-i-preserved c =
-    let low : c.loop-i.i < c.len-len.result = omega (arith, c.loop-i-test.true, c.min-i-end.ensures) in
-    ahead-next c.self.inside.items.items c.args.self.now.items c.loop-i.jobs.items c.push.new.self.items c.loop-i.i c.len-len.result c.index.result.now
-    (ap (λ (q : JobQueue). q.items) c.self.view_is) (c.len-len.ensures ∙ c.self.inside.items.ok.0) low c.index.ensures c.loop-i.invariant c.in_ok-push.ensures.items
+pub least_jobs-requires-clause-set : goal.least_jobs-requires-clause-set
+least_jobs-requires-clause-set c = set-from_order c.self.inside.order c.self.inside.items.items c.self.invariant.queue.set
+
+pub least_jobs-requires-clause-vars : goal.least_jobs-requires-clause-vars
+least_jobs-requires-clause-vars c =
+    Each-from_order c.self.inside.order (λ (k : Keyed). length k.mono ≡ c.self.inside.order.vars) c.self.inside.items.items c.self.invariant.queue.vars

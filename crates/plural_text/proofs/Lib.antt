@@ -11,3 +11,4 @@ pub mod Terms
 pub mod Rests
 pub mod Steps
 pub mod RelationLines
+mod CertificateLines

@@ -3,3 +3,4 @@ pub mod Readings
 pub mod Spelling
 pub mod Pieces
 pub mod CertificateTexts
+pub mod Writable

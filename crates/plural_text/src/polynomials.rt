@@ -76,8 +76,8 @@ fn write_later_term(
     write_term(text, field, names, term)
 }
 
-// Appends a term.
-fn write_term(
+/// Appends a term.
+pub fn write_term(
     text: &mut Vec<u8>,
     field: Field,
     names: &[String],

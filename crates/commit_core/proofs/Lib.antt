@@ -5,3 +5,4 @@ pub mod Growing
 pub mod Leading
 pub mod Running
 pub mod Continuing
+mod CountRows

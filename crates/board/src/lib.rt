@@ -16,6 +16,7 @@ use std::marker::Model;
 pub use word_model::events::{BoardEvent, Claimed, Standing};
 
 mod logged;
+mod slots;
 #[cfg(test)]
 mod tests;
 

@@ -8,26 +8,20 @@ ghost use Rattle.board.specs.Boards.{standing, hand, closed, offered, claimed, c
 ghost use Rattle.board.specs.Logs.{Distinct, IsAtPlace};
 ghost use Rattle.word_model.specs.declared.events.BoardEvent.TheVariants.{Claim, Offer};
 ghost use Rattle.word_model.specs.declared.events.Standing.TheVariants.{Offered, Taken, Published};
-ghost use Rattle.board.specs.declared.logged.Item.{Item};
+ghost use Rattle.board.specs.declared.slots.Slot.{Slot};
 ghost use Rattle.word_model.specs.declared.records.Job.{Job};
 
+use crate::slots::{Slot, Slots};
 use run_records::Job;
 use std::alloc::{AllocError, Global};
 use std::marker::Model;
 use word_model::events::{BoardEvent, Claimed, Standing};
 
-// A job on the board.
-#[derive(Clone, Copy)]
-pub(crate) struct Item {
-    pub(crate) job: Job,
-    pub(crate) standing: Standing,
-}
-
 // A board without payloads. Only `new` and `offer` take memory.
 #[derive(Drop)]
 pub(crate) struct Logged {
     log: Vec<BoardEvent>,
-    items: Vec<Item>,
+    slots: Slots,
     hands: Vec<Option<Job>>,
     seats: u8,
     shut: bool,
@@ -41,7 +35,7 @@ impl Model for Logged {
 
     ghost view = { λ b. record { log = b.log.items; seats = b.seats } };
 
-    ghost invariant = { λ b. Fits b.log.items (vec_len b.log) (vec_capacity b.log) b.items.items b.hands.items b.shut
+    ghost invariant = { λ b. Fits b.log.items (vec_len b.log) (vec_capacity b.log) b.slots b.hands.items b.shut
         × (length b.hands.items ≡ suc b.seats) };
 }
 
@@ -58,7 +52,7 @@ impl Logged {
         }
         Ok(Logged {
             log,
-            items: Vec::new(alloc),
+            slots: Slots::new(alloc),
             hands,
             seats,
             shut: false,
@@ -74,22 +68,13 @@ impl Logged {
         ensures refused { OnErr result (self.new ≡ self.old) }
         ensures seats { self.new.seats ≡ self.old.seats }
     {
-        let Some(events) = events_of(self.items.len(), self.hands.len(), jobs.len()) else {
+        let Some(events) = events_of(self.slots.len(), self.hands.len(), jobs.len()) else {
             return Err(AllocError);
         };
         self.log.reserve(events)?;
-        self.items.reserve(jobs.len())?;
-        for k in 0..jobs.len() {
-            let job = nth(jobs, k);
-            let standing = Standing::Offered;
-            match self.items.push(Item { job, standing }) {
-                Ok(()) => (),
-                Err(_) => unreachable!(),
-            }
-            match self.log.push(BoardEvent::Offer { job }) {
-                Ok(()) => (),
-                Err(_) => unreachable!(),
-            }
+        self.slots.offer(jobs)?;
+        for job in jobs {
+            self.log.push(BoardEvent::Offer { job: *job }).unwrap();
         }
         Ok(())
     }
@@ -97,8 +82,8 @@ impl Logged {
     pub(crate) fn standing(&self, job: &Job) -> Option<Standing>
         ensures { result ≡ standing self.now.log job.now }
     {
-        match place_of(&self.items, job) {
-            Some(k) => Some(self.items[k].standing),
+        match self.slots.place(job) {
+            Some(k) => Some(self.slots.at(k).standing),
             None => None,
         }
     }
@@ -153,14 +138,11 @@ impl Logged {
         if self.shut {
             return Claimed::Closed;
         }
-        let Some(k) = first_offered(&self.items) else {
+        let Some(k) = self.slots.first_offered() else {
             return Claimed::NoneNow;
         };
-        let job = self.items[k].job;
-        self.items[k] = Item {
-            job,
-            standing: Standing::Held { seat },
-        };
+        let job = self.slots.at(k).job;
+        self.slots.stand(k, Standing::Held { seat });
         self.hands[seat as usize] = Some(job);
         match self.log.push(BoardEvent::Claim { seat, job }) {
             Ok(()) => Claimed::Job(job),
@@ -181,14 +163,12 @@ impl Logged {
         let Some(job) = hand_of(&self.hands, seat) else {
             unreachable!()
         };
-        let Some(k) = place_of(&self.items, &job) else {
+        let Some(k) = self.slots.place(&job) else {
             unreachable!()
         };
-        let was = self.items[k].standing;
-        self.items[k] = Item {
-            job,
-            standing: unless_taken(was, left_standing(published)),
-        };
+        let was = self.slots.at(k).standing;
+        self.slots
+            .stand(k, unless_taken(was, left_standing(published)));
         self.hands[seat as usize] = None;
         match self.log.push(leaving(published, seat, job)) {
             Ok(()) => unless_gone(was, k),
@@ -203,17 +183,14 @@ impl Logged {
         ensures place { MatchOption result (standing self.old.log job.now ≢ Some Published)
             (λ k. (standing self.old.log job.now ≡ Some Published) × (k ≡ place_of (offered self.old.log) job.now) × IsAtPlace (offered self.old.log) k job.now) }
     {
-        let Some(k) = place_of(&self.items, job) else {
+        let Some(k) = self.slots.place(job) else {
             return None;
         };
-        let Item { job, standing: was } = self.items[k];
+        let Slot { job, standing: was } = self.slots.at(k);
         if is_taken(was) {
             return None;
         }
-        self.items[k] = Item {
-            job,
-            standing: Standing::Taken,
-        };
+        self.slots.stand(k, Standing::Taken);
         match self.log.push(BoardEvent::Take { job }) {
             Ok(()) => if_published(was, k),
             Err(_) => unreachable!(),
@@ -228,51 +205,6 @@ fn events_of(jobs: usize, hands: usize, count: usize) -> Option<usize>
     let jobs = jobs.checked_mul(3)?;
     let count = count.checked_mul(4)?;
     jobs.checked_add(hands)?.checked_add(count)?.checked_add(1)
-}
-
-// The job at a place.
-fn nth(jobs: &[Job], k: usize) -> Job
-    requires { k < length jobs.now }
-    ensures { (d : Job) → result ≡ slice_index_or jobs.now k d }
-{
-    jobs[k]
-}
-
-// Whether two jobs are the same.
-fn same(a: &Job, b: &Job) -> bool
-    ensures { result ≡ same_job a.now b.now }
-{
-    *a == *b
-}
-
-// The first place of a job.
-fn place_of(items: &Vec<Item>, job: &Job) -> Option<usize>
-    ensures { MatchOption result
-        ((m : ℕ) (d : Item) → m < length items.now.items → same_job (slice_index_or items.now.items m d).job job.now ≡ false)
-        (λ k. (k < length items.now.items) × ((d : Item) → same_job (slice_index_or items.now.items k d).job job.now ≡ true)
-        × ((m : ℕ) (d : Item) → m < k → same_job (slice_index_or items.now.items m d).job job.now ≡ false)) }
-{
-    for k in 0..items.len() {
-        if same(&items[k].job, job) {
-            return Some(k);
-        }
-    }
-    None
-}
-
-// The first item that stands offered.
-fn first_offered(items: &Vec<Item>) -> Option<usize>
-    ensures { MatchOption result
-        ((m : ℕ) (d : Item) → m < length items.now.items → (slice_index_or items.now.items m d).standing ≢ Offered)
-        (λ k. (k < length items.now.items) × ((d : Item) → (slice_index_or items.now.items k d).standing ≡ Offered)
-        × ((m : ℕ) (d : Item) → m < k → (slice_index_or items.now.items m d).standing ≢ Offered)) }
-{
-    for k in 0..items.len() {
-        if let Standing::Offered = items[k].standing {
-            return Some(k);
-        }
-    }
-    None
 }
 
 // What a seat has in hand.

@@ -84,3 +84,84 @@ fn answers_each_call(rt: HostRuntime) -> Result<(), Fail> {
     assert_eq!(rt; text.as_str(), LOG);
     Ok(())
 }
+
+// The two jobs of a number, which no other number has.
+fn two_jobs(i: u8, j: u8) -> (Job, Job) {
+    let (i, j) = (u32::from(i), u32::from(j));
+    (
+        Job::Pair { i, j },
+        Job::Right {
+            i: 64 * i + j,
+            v: 2,
+        },
+    )
+}
+
+// An offer of both, as a caller makes it who knows no more of the board.
+fn offer(board: &mut Board<u32>, alloc: Global, i: u8, j: u8) -> Result<bool, AllocError> {
+    let (i, j) = (u32::from(i), u32::from(j));
+    let (first, second) = (
+        Job::Pair { i, j },
+        Job::Right {
+            i: 64 * i + j,
+            v: 2,
+        },
+    );
+    if board.closed() || board.standing(&first).is_some() || board.standing(&second).is_some() {
+        return Ok(false);
+    }
+    board.offer(alloc, &[first, second])?;
+    Ok(true)
+}
+
+// The same, and once more where memory was wanting: the board is as it was then.
+fn offer_again(board: &mut Board<u32>, alloc: Global, i: u8, j: u8) -> Result<bool, AllocError> {
+    match offer(board, alloc, i, j) {
+        Ok(is_new) => Ok(is_new),
+        Err(_) => offer(board, alloc, i, j),
+    }
+}
+
+// All pairs up to 40 come on the board, some of them are taken, and the others are claimed in order.
+#[test]
+fn finds_each_of_many_jobs(rt: HostRuntime) -> Result<(), Fail> {
+    let alloc = rt.alloc();
+    let mut board: Board<u32> = Board::new(alloc, 0)?;
+    for j in 2..41 {
+        for i in 1..j {
+            assert!(rt; offer_again(&mut board, alloc, i, j)?);
+        }
+    }
+    assert!(rt; !offer_again(&mut board, alloc, 1, 2)?);
+    for j in 2..41 {
+        for i in 1..j {
+            if i % 2 == 0 {
+                assert!(rt; board.take(&two_jobs(i, j).0) == None);
+            }
+        }
+    }
+    for j in 2..41 {
+        for i in 1..j {
+            let (first, second) = two_jobs(i, j);
+            if i % 2 == 1 {
+                assert!(rt; claim(&mut board, 0) == Some(Claimed::Job(first)));
+                assert!(rt; claim(&mut board, 0) == None);
+                assert!(rt; publish(&mut board, 0, u32::from(j)) == Some(None));
+            }
+            assert!(rt; claim(&mut board, 0) == Some(Claimed::Job(second)));
+            assert!(rt; publish(&mut board, 0, u32::from(i)) == Some(None));
+        }
+    }
+    assert!(rt; claim(&mut board, 0) == Some(Claimed::NoneNow));
+    for j in 2..41 {
+        for i in 1..j {
+            let (first, second) = two_jobs(i, j);
+            let kept = if i % 2 == 1 { Some(u32::from(j)) } else { None };
+            assert!(rt; board.take(&first) == kept);
+            assert!(rt; board.take(&second) == Some(u32::from(i)));
+        }
+    }
+    board.close();
+    assert!(rt; !offer_again(&mut board, alloc, 50, 51)?);
+    Ok(())
+}

@@ -1,0 +1,6 @@
+mod Firsts
+mod LineTests
+mod ListTests
+mod Holding
+mod OwnRuns
+mod ChainTests

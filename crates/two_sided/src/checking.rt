@@ -8,12 +8,14 @@ ghost use Rattle.word_model.specs.Machine.{machine};
 ghost use Rattle.word_model.specs.TwoSided.{InTwoSidedIdeal};
 ghost use Rattle.word_model.specs.declared.records.Mode.{Mode};
 ghost use Rattle.gproduct.specs.Seats.{Keeps};
-ghost use Rattle.two_sided.specs.Checks.{IsCheckable, TooHigh, tested, chain_check};
+ghost use Rattle.two_sided.specs.Checks.{IsTerm, IsLine, IsCheckable, TooHigh, tested, chain_check};
 
+use crate::lines::elements_of;
+use crate::lists::list_holds;
 use algebra::ProductFault;
 use gpoly::GPoly;
 use gproduct::{Steps, TableSeat};
-use run_records::Chain;
+use run_records::{Chain, Entry, Finished};
 use std::alloc::Global;
 use std::sync::ledger::Ledger;
 
@@ -46,5 +48,38 @@ pub fn check_chain<L: Ledger>(
     ensures algebra { seat.new.algebra ≡ seat.old.algebra }
     ensures kept { Keeps seat.old seat.new }
 {
-    Err(ProductFault::Memory)
+    let _n = seat.algebra().n();
+    both_hold(
+        alloc,
+        seat,
+        gens,
+        &chain.journal_lines,
+        &chain.finished,
+        steps,
+    )
+}
+
+// Whether lines hold, and then a finished list over the basis that they give.
+fn both_hold<L: Ledger>(
+    alloc: Global,
+    seat: &mut TableSeat,
+    gens: &[GPoly],
+    lines: &[Entry],
+    list: &Finished,
+    steps: &mut Steps<L>,
+) -> Result<bool, ProductFault>
+    requires generators { Each (IsPolynomial seat.old.algebra.p seat.old.algebra.order) gens.now }
+    requires numbers { Each (IsLine seat.old.algebra) lines.now }
+    requires terms { Each (Each (IsTerm seat.old.algebra)) list.now.tails }
+    ensures value { IfOk result (λ holds.
+        chain_check seat.old.algebra gens.now (record { lines = lines.now; finished = list.now }) ≡ tested holds) }
+    ensures over { result ≡ Err ProductFault.DegreeOver →
+        chain_check seat.old.algebra gens.now (record { lines = lines.now; finished = list.now }) ≡ TooHigh }
+    ensures algebra { seat.new.algebra ≡ seat.old.algebra }
+    ensures kept { Keeps seat.old seat.new }
+{
+    match elements_of(alloc, seat, gens, lines, steps)? {
+        Some(basis) => list_holds(alloc, seat, &basis, list, steps),
+        None => Ok(false),
+    }
 }

@@ -3,7 +3,13 @@
 #![tactic(auto)]
 
 mod checking;
+pub mod laws;
+mod lines;
+mod lists;
 mod making;
+mod naming;
+mod pushing;
+mod subtracting;
 
 pub use checking::check_chain;
 pub use making::chain;

@@ -1,0 +1,40 @@
+use Rattle.std.proofs.Common.{Ok, sym, ap, ◌∙◌, subst, arith}
+use Rattle.monomials.specs.Polynomials.{Each}
+use Rattle.monomials.proofs.Keys.{Each-append}
+use Rattle.word_model.specs.Machine.{IsElement}
+use Rattle.crew.specs.Desks.{DeskValue}
+use Rattle.commit_core.specs.Leads.{Run, IsCommit, run_journal}
+use Rattle.commit_core.specs.declared.lead.Committed.{Committed}
+use Rattle.commit_core.specs.declared.lead.Committed.TheVariants.{Added, Over as Ended}
+use Rattle.commit_core.proofs.Running.{same-run, same-journal, commit-adds}
+use Rattle.crew.proofs.desk.Desk.led.Goals as goal
+
+pub loop-lead-smaller : goal.loop-lead-smaller
+loop-lead-smaller g c =
+    let added : IsCommit c.loop-lead.lead c.commit.new.self (Ok Added) =
+    subst (λ (r : Committed). IsCommit c.loop-lead.lead c.commit.new.self (Ok r)) c.in-Added.is c.in_ok-commit.ensures.step in
+    let adds = commit-adds c.loop-lead.lead c.commit.new.self added in
+    omega (arith, adds, added.0.budget)
+
+pub loop-lead-preserved : goal.loop-lead-preserved
+loop-lead-preserved g c =
+    let old : Run = c.loop-lead.lead in
+    let added : IsCommit old c.commit.new.self (Ok Added) =
+    subst (λ (r : Committed). IsCommit old c.commit.new.self (Ok r)) c.in-Added.is c.in_ok-commit.ensures.step in
+    let is = c.loop-lead.invariant in
+    let grown = c.grow.ensures.grown in
+    let more : Each (IsElement c.args.self.now.algebra) grown.0 =
+    subst (λ (d : DeskValue). Each (IsElement d.algebra) grown.0) c.self.view_is grown.2 in
+    record {
+      seat = c.commit.ensures.seat_algebra ∙ c.help.ensures.algebra ∙ is.seat;
+      algebra = added.0.algebra ∙ is.algebra;
+      view = subst (Each (IsElement c.args.self.now.algebra)) (sym grown.1) (Each-append (IsElement c.args.self.now.algebra) c.loop-lead.view grown.0 is.view more);
+      same = same-run c.args.lead old c.commit.new.self is.same added.0;
+    }
+
+pub returns-in-Over : goal.returns-in-Over
+returns-in-Over g c =
+    let old : Run = c.loop-lead.lead in
+    let over : IsCommit old c.commit.new.self (Ok (Ended c.in-Over.field-0)) =
+    subst (λ (r : Committed). IsCommit old c.commit.new.self (Ok r)) c.in-Over.is c.in_ok-commit.ensures.step in
+    c.into_journal.ensures.machine ∙ ap run_journal over.1 ∙ same-journal c.args.lead old c.loop-lead.invariant.same

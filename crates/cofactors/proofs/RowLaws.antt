@@ -6,6 +6,7 @@ use Rattle.std.proofs.lemmas.Bool.{and_left}
 use Rattle.monomials.specs.Monomials.{Monomial, one}
 use Rattle.monomials.specs.Orders.{order_cmp}
 use Rattle.monomials.specs.Polynomials.{Polynomial, Each, IsCanonical, IsPolynomial, poly_add, poly_sub, poly_scale}
+use Rattle.monomials.proofs.Keys.{Each-set}
 use Rattle.monomials.proofs.OrderLaws.{order_cmp_total, order_cmp_tied}
 use Rattle.monomials.proofs.Merge.{poly_add-nil}
 use Rattle.word_model.specs.Words.{Algebra}
@@ -90,11 +91,6 @@ module _ (A : Algebra) (c : ℕ) (m : Monomial) where
       at (q ∷ row) [] k below same is = absurd (omega arith)
       at (q ∷ row) (r ∷ other) zero below same is = ap (λ v. v ∷ row_sub A row (row_multiple A c m other)) is
       at (q ∷ row) (r ∷ other) (suc k) below same is = ap (λ rest. q ∷ rest) (at row other k (omega arith) (omega arith) is)
-
-pub Each-set : {X : Type 0} (P : X → Type 0) (xs : List X) (k : ℕ) (x : X) → Each P xs → P x → Each P (slice_set xs k x)
-Each-set P [] k x h p = tt
-Each-set P (y ∷ xs) zero x h p = (p, h.1)
-Each-set P (y ∷ xs) (suc k) x h p = (h.0, Each-set P xs k x h.1 p)
 
 -- the whole row is done
 pub row_sub-done : (A : Algebra) (row other : Row) (k : ℕ) → k ≡ length row → take k row ++ row_sub A (drop k row) other ≡ row

@@ -18,7 +18,7 @@ use Rattle.word_model.proofs.Longer.{longer}
 use Rattle.monomials.proofs.Keys.{Each-first}
 use Rattle.left_reduce.specs.Reductions.{GoneOn, behind_steps, ends_at}
 use Rattle.left_reduce.specs.Inside.Steps.{after_steps}
-use Rattle.left_reduce.proofs.Starts.{start_of-append}
+use Rattle.word_model.proofs.Prefixes.{start_begins}
 use Rattle.left_reduce.specs.declared.reducing.Ended.TheVariants.{DegreeOver}
 use Rattle.run_records.specs.Ahead.{ReducedStart}
 use Rattle.commit_core.specs.Leads.{Run}
@@ -53,7 +53,7 @@ module _ (A : Algebra) (ok : IsGAlgebra A) (gens G : List Polynomial) (gens_are 
   pub good-begun : IsBegun A gens G spec.job spec.rest spec.trace
   good-begun = (
     good.ahead.0,
-    ap (λ K. start_of A gens K spec.job) (sym whole) ∙ start_of-append A gens H (drop spec.prefix G) spec.job named ∙ good.ahead.1,
+    ap (λ K. start_of A gens K spec.job) (sym whole) ∙ start_begins A gens H (H ++ drop spec.prefix G) (drop spec.prefix G, refl) spec.job named ∙ good.ahead.1,
     subst (λ (K : List Polynomial). reduce A K good.ahead.0 ≡ after_steps spec.trace (reduce A K spec.rest)) whole
         (
         longer A ok H (drop spec.prefix G) H_are (subst (Each (IsPolynomial A.p A.order)) (sym whole) G_are) good.ahead.0 start_is

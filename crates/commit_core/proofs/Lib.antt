@@ -5,3 +5,5 @@ pub mod Growing
 pub mod Leading
 pub mod Running
 pub mod Continuing
+pub mod GoodSpecs
+mod CountRows

@@ -7,7 +7,6 @@ use Rattle.word_model.specs.Reduction.{element}
 use Rattle.word_model.specs.Jobs.{start_of, s_polynomial, both_within, IsJob}
 use Rattle.word_model.specs.declared.records.Job.{Job}
 use Rattle.word_model.specs.declared.records.Job.TheVariants.{Seed, Pair, Right}
-use Rattle.word_model.proofs.Steps.{element-append}
 
 -- what follows from a value and from a fact that holds where there is one
 pub with_fact : {X E : Type 0} (r : Result X E) (W : Type 0) (P Q : X → Type 0) → OnOk r W → IfOk r P → (W → (x : X) → P x → Q x) → IfOk r Q
@@ -39,22 +38,3 @@ module _ (A : Algebra) (gens G : List Polynomial) (job : Job) where
   unfolding start_of
   start-right_over i v is over =
       ap (start_of A gens G) is ∙ (λ k. if over k then Some (product A (element G i) (variable_polynomial A v)) else None)
-
--- ---- starts over more elements
-
-pair_start : Algebra → Polynomial → Polynomial → Option Polynomial
-pair_start A f g = if both_within f g then Some (s_polynomial A f g) else None
-
-right_start : Algebra → ℕ → Polynomial → Option Polynomial
-right_start A v f = if in_reach f (variable_polynomial A v) then Some (product A f (variable_polynomial A v)) else None
-
--- the start of a job is the same over more elements
-pub start_of-append : (A : Algebra) (gens G H : List Polynomial) (job : Job) → IsJob (length gens) (length G) A.order.vars job
-    → start_of A gens (G ++ H) job ≡ start_of A gens G job
-unfolding start_of pair_start right_start
-start_of-append A gens G H (Seed s) is = refl
-start_of-append A gens G H (Pair i j) is =
-    let first : element (G ++ H) i ≡ element G i = element-append G H i is.0 (omega (arith, is.1, is.2)) in
-    let second : element (G ++ H) j ≡ element G j = element-append G H j (omega (arith, is.0, is.1)) is.2 in
-    λ k. pair_start A (first k) (second k)
-start_of-append A gens G H (Right i v) is = ap (right_start A v) (element-append G H i is.0 is.1)

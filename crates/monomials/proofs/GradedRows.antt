@@ -70,6 +70,17 @@ first_same (w ∷ ws) a b some h e alike =
 
 -- ---- rows that compare as equal
 
+-- orderings one behind another
+pub then_assoc : (o p q : Ordering) → ordering_then (ordering_then o p) q ≡ ordering_then o (ordering_then p q)
+then_assoc Less p q = refl
+then_assoc Equal p q = refl
+then_assoc Greater p q = refl
+
+pub then_none : (o : Ordering) → ordering_then o Equal ≡ o
+then_none Less = refl
+then_none Equal = refl
+then_none Greater = refl
+
 -- what ties behind an ordering ties with it
 pub then_equal : (o p : Ordering) → ordering_then o p ≡ Equal → (o ≡ Equal) × (p ≡ Equal)
 then_equal Less p e = cc

@@ -1,5 +1,5 @@
 -- What holds of the keys of polynomials holds of those of their sums and multiples.
-use Rattle.std.proofs.Common.{◌≡◌, ℕ, ◌+◌, ◌*◌, ◌%◌, List, [], ◌∷◌, ◌++◌, length}
+use Rattle.std.proofs.Common.{◌≡◌, ℕ, zero, suc, ◌+◌, ◌*◌, ◌%◌, List, [], ◌∷◌, ◌++◌, length, slice_set}
 use Rattle.std.proofs.Common.{Ordering}
 use Rattle.monomials.specs.Monomials.{Monomial}
 use Rattle.monomials.specs.Polynomials.{Polynomial, HasVars, cons_nonzero, insert_term, from_terms, poly_add, poly_scale, sum_over, Each}
@@ -24,6 +24,12 @@ Each-second P (x ∷ xs) ys h = Each-second P xs ys h.1
 pub Each-weaker : {X : Type 0} (P Q : X → Type 0) → ((x : X) → P x → Q x) → (xs : List X) → Each P xs → Each Q xs
 Each-weaker P Q f [] h = tt
 Each-weaker P Q f (x ∷ xs) h = (f x h.0, Each-weaker P Q f xs h.1)
+
+-- of a list with another element at a place
+pub Each-set : {X : Type 0} (P : X → Type 0) (xs : List X) (k : ℕ) (x : X) → Each P xs → P x → Each P (slice_set xs k x)
+Each-set P [] k x h p = tt
+Each-set P (y ∷ xs) zero x h p = (p, h.1)
+Each-set P (y ∷ xs) (suc k) x h p = (h.0, Each-set P xs k x h.1 p)
 
 -- Q holds of each key
 abbrev pub EachKey : {K : Type 0} → (K → Type 0) → List (ℕ × K) → Type 0

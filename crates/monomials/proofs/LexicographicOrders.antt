@@ -1,6 +1,6 @@
 -- The order of blocks compares lists of whole numbers, one list for each monomial.
 use Rattle.std.proofs.Common.{◌≡◌, ℕ, suc, ◌+◌, ◌-◌, List, [], ◌∷◌, ◌++◌, length, map, replicate, drop, arith, refl, sym, ◌∙◌, ap, ℤ, pos, length-append}
-use Rattle.std.proofs.Common.{Ordering, Less, Equal, Greater, nat_cmp, int_cmp}
+use Rattle.std.proofs.Common.{Equal, nat_cmp, int_cmp}
 use Rattle.std.specs.Ordering.{ordering_then}
 use Rattle.std.specs.Cmp.Lexicographic.{slice_cmp}
 use Rattle.std.proofs.lemmas.List.{length-replicate}
@@ -14,18 +14,8 @@ use Rattle.monomials.specs.Rows.{weighted}
 use Rattle.monomials.specs.declared.order.Block.{Block}
 use Rattle.monomials.specs.declared.order.Block.TheVariants.{Extra, Lex, DegRev, DegLex, WeightRev, WeightLex}
 use Rattle.monomials.proofs.RowValues.{compare_weights_row, compare_weights}
-use Rattle.monomials.proofs.GradedRows.{rising_values, falling_values, length-rising_values, length-falling_values, rising_same, graded_rising_same, graded_falling_same, ones_row, ones_positive}
+use Rattle.monomials.proofs.GradedRows.{then_assoc, rising_values, falling_values, length-rising_values, length-falling_values, rising_same, graded_rising_same, graded_falling_same, ones_row, ones_positive}
 use Rattle.monomials.proofs.Separation.{weights_positive}
-
-then_assoc : (a b c : Ordering) → ordering_then (ordering_then a b) c ≡ ordering_then a (ordering_then b c)
-then_assoc Less b c = refl
-then_assoc Equal b c = refl
-then_assoc Greater b c = refl
-
-then_tied : (a : Ordering) → ordering_then a Equal ≡ a
-then_tied Less = refl
-then_tied Equal = refl
-then_tied Greater = refl
 
 rows_cmp-append : (rs ss : List (List ℤ)) (a b : Monomial) → rows_cmp (rs ++ ss) a b ≡ ordering_then (rows_cmp rs a b) (rows_cmp ss a b)
 rows_cmp-append [] ss a b = refl

@@ -14,19 +14,9 @@ use Rattle.monomials.specs.Words.{lanes, joined, spread, joined-lanes}
 use Rattle.monomials.specs.Padded.{IsPadded, exponents}
 use Rattle.monomials.specs.declared.expo.Expo.TheInside.{Inside}
 use Rattle.monomials.proofs.RowValues.{row_value-row_of, compare_falling, int_cmp-pos}
-use Rattle.monomials.proofs.GradedRows.{then_equal, nat_cmp_equal}
+use Rattle.monomials.proofs.GradedRows.{then_assoc, then_none, then_equal, nat_cmp_equal}
 use Rattle.monomials.proofs.Lanes.{lane-below, listed, from_at}
 use Rattle.monomials.proofs.Packing.{words_are, length_is}
-
-then_assoc : (o p q : Ordering) → ordering_then (ordering_then o p) q ≡ ordering_then o (ordering_then p q)
-then_assoc Less p q = refl
-then_assoc Equal p q = refl
-then_assoc Greater p q = refl
-
-then_none : (o : Ordering) → ordering_then o Equal ≡ o
-then_none Less = refl
-then_none Equal = refl
-then_none Greater = refl
 
 nat_cmp-self : (x : ℕ) → nat_cmp x x ≡ Equal
 nat_cmp-self x = grind (arith, nat_tests)

@@ -80,8 +80,8 @@ impl Model for Order {
 }
 
 impl Block {
-    // How many variables it covers.
-    fn covered(&self) -> usize
+    /// How many variables it covers: an extra weight row covers none.
+    pub fn covered(&self) -> usize
         ensures { result ≡ block_len self.now }
     {
         match self {

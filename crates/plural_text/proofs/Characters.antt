@@ -81,7 +81,7 @@ each_passes : (test : ℕ → Bool) (xs : List ℕ) → Each (λ x. test x ≡ t
 each_passes test [] h = refl
 each_passes test (x ∷ xs) h = rw h.0 (each_passes test xs h.1)
 
-letter_in_name : (b : ℕ) → is_letter b ≡ true → is_name_byte b ≡ true
+pub letter_in_name : (b : ℕ) → is_letter b ≡ true → is_name_byte b ≡ true
 letter_in_name b h = rw h refl
 
 pub name_bytes : (name : List ℕ) → IsName name → list_all is_name_byte name ≡ true

@@ -1,20 +1,20 @@
 -- Every list of events keeps what every world has.
-use Rattle.std.proofs.Common.{◌≡◌, ℕ, zero, suc, ◌-◌, ◌≤◌, min, nat_le, nat_lt, ◌||◌, ◌&&◌, ◌==◌, not, ◌⊎◌, inl, inr, Bool, true, false, List, [], ◌∷◌, ◌++◌, length, take, map, slice_set, slice_index_or, Option, Some, None, IfSome, if◌then◌else◌, refl, sym, ap, ◌∙◌, subst, arith, length-append, append-nil}
+use Rattle.std.proofs.Common.{◌≡◌, ℕ, zero, suc, ◌-◌, ◌≤◌, min, nat_le, nat_lt, ◌||◌, ◌&&◌, ◌==◌, not, ◌⊎◌, inl, inr, Bool, true, false, List, [], ◌∷◌, ◌++◌, length, map, slice_set, slice_index_or, Option, Some, None, IfSome, if◌then◌else◌, refl, sym, ap, ◌∙◌, subst, arith, length-append, append-nil}
 use Rattle.std.proofs.lemmas.Bool.Decides.{nat_tests}
-use Rattle.std.proofs.lemmas.List.{take-append-le, map-append}
+use Rattle.std.proofs.lemmas.List.{map-append}
 use Rattle.std.specs.List.{list_any, find}
 use Rattle.monomials.specs.Polynomials.{Polynomial, Each, IsPolynomial}
 use Rattle.word_model.specs.Words.{Algebra}
 use Rattle.word_model.specs.Conditions.{IsGAlgebra}
-use Rattle.word_model.specs.Jobs.{same_job, is_queued, without, least_job, start_of, IsJob}
+use Rattle.word_model.specs.Jobs.{same_job, is_queued, without, least_job}
 use Rattle.word_model.specs.Machine.{State, Turn, On, Over, step, first_state, machine, run_within, IsState}
 use Rattle.word_model.specs.declared.records.Job.{Job}
-use Rattle.word_model.specs.declared.records.Job.TheVariants.{Seed, Pair, Right}
 use Rattle.word_model.specs.declared.records.Mode.{Mode}
 use Rattle.word_model.specs.declared.records.Outcome.{Outcome}
-use Rattle.monomials.proofs.Keys.{Each-append, Each-weaker}
+use Rattle.monomials.proofs.Keys.{Each-append, Each-weaker, Each-set}
 use Rattle.word_model.proofs.Steps.{Each-filter, IsTreated-longer, first_state-is, step-keeps, least_job-one}
-use Rattle.word_model.proofs.JobLists.{same_job-is, same_job-itself}
+use Rattle.word_model.proofs.JobLists.{same_job-is, same_job-itself, queued-first, queued-second}
+use Rattle.word_model.proofs.Letters.{Each-both}
 use Rattle.pair_strategy.proofs.Least.{Each-queued}
 use Rattle.run_records.specs.Ahead.{ReducedStart}
 use Rattle.word_model.specs.declared.events.Place.{Place}
@@ -29,26 +29,17 @@ use Rattle.word_model.specs.declared.events.Event.TheVariants.{Offer as Offers, 
 use Rattle.word_model.specs.declared.events.Hand.{Hand}
 use Rattle.board.specs.Boards.{standing, closed, next, is_offered, offered, claimed, claim_of, place_of, close_events, hand, if_seat}
 use Rattle.commit_core.specs.Named.{IsNamed}
-use Rattle.commit_core.specs.Specs.{IsGood, IsAhead, names_within, spec_from}
+use Rattle.commit_core.specs.Specs.{IsGood}
 use Rattle.replay.specs.Worlds.{CoreWorld, first_world, last_seat, hand_at, held_job, with_hand, without_hand, is_off, off_board, offer_first, offers, claim_job, claim_empty, claims, is_place, same_place, fills, spec_of, keep, publish_spec, publish_hand, release_hand, take_job, take_first, commits, after_event, after_events, WasQueued, IsSound}
 use Rattle.replay.specs.Fit.{IsFit}
 use Rattle.commit_core.proofs.Bringing.{queued-append}
+use Rattle.commit_core.proofs.GoodSpecs.{good-longer, spec_over-good}
 use Rattle.commit_core.proofs.Growing.{Grew, step-grew, run-part}
 use Rattle.commit_core.specs.Leads.{IsPart, job_of}
 use Rattle.board.proofs.Logs.{hand-snoc, offered-snoc}
 use Rattle.commit_core.proofs.Turning.{run-first, run-goes_on, run-ends}
 
 -- ---- jobs that are queued, or were
-
-queued_left : (jobs others : List Job) (job : Job) → is_queued jobs job ≡ true → is_queued (jobs ++ others) job ≡ true
-queued_left jobs others job e = queued-append jobs others job ∙ rw e refl
-
-queued_right : (jobs others : List Job) (job : Job) → is_queued others job ≡ true → is_queued (jobs ++ others) job ≡ true
-queued_right jobs others job e = queued-append jobs others job ∙ turn (is_queued jobs job) (is_queued others job) e
-  where
-    turn : (a b : Bool) → b ≡ true → (a || b) ≡ true
-    turn true b e = refl
-    turn false b e = e
 
 queued_either : (jobs others : List Job) (job : Job) → is_queued (jobs ++ others) job ≡ true → (is_queued jobs job ≡ true) ⊎ (is_queued others job ≡ true)
 queued_either jobs others job e = turn (is_queued jobs job) (is_queued others job) (sym (queued-append jobs others job) ∙ e)
@@ -77,24 +68,17 @@ was_queued-on s t job grew was =
     let done : map job_of t.entries ≡ map job_of s.entries ++ job_of grew.entry ∷ [] = ap (map job_of) grew.entries ∙ map-append job_of s.entries (grew.entry ∷ []) in
     elim (queued_either s.queue (map job_of s.entries) job was) [
       | inl queued ↦ elim (stays (job_of grew.entry) job s.queue queued) [
-        | inl left ↦ queued_left t.queue (map job_of t.entries) job
-            (subst (λ q. is_queued q job ≡ true) (sym grew.queue) (queued_left (without (job_of grew.entry) s.queue) grew.jobs job left))
-        | inr same ↦ queued_right t.queue (map job_of t.entries) job
-            (subst (λ d. is_queued d job ≡ true) (sym done) (queued_right (map job_of s.entries) (job_of grew.entry ∷ []) job
+        | inl left ↦ queued-first t.queue (map job_of t.entries) job
+            (subst (λ q. is_queued q job ≡ true) (sym grew.queue) (queued-first (without (job_of grew.entry) s.queue) grew.jobs job left))
+        | inr same ↦ queued-second t.queue (map job_of t.entries) job
+            (subst (λ d. is_queued d job ≡ true) (sym done) (queued-second (map job_of s.entries) (job_of grew.entry ∷ []) job
             (subst (λ j. is_queued (job_of grew.entry ∷ []) j ≡ true) same (rw (same_job-itself (job_of grew.entry)) refl))))
       ]
-      | inr treated ↦ queued_right t.queue (map job_of t.entries) job
-          (subst (λ d. is_queued d job ≡ true) (sym done) (queued_left (map job_of s.entries) (job_of grew.entry ∷ []) job treated))
+      | inr treated ↦ queued-second t.queue (map job_of t.entries) job
+          (subst (λ d. is_queued d job ≡ true) (sym done) (queued-first (map job_of s.entries) (job_of grew.entry ∷ []) job treated))
     ]
 
 -- ---- Specs and jobs when the basis grows
-
-good-longer : (A : Algebra) (gens G : List Polynomial) (g : Polynomial) (spec : ReducedStart) → IsGood A gens G spec → IsGood A gens (G ++ g ∷ []) spec
-good-longer A gens G g spec good = record {
-  within = omega (arith, good.within, length-append G (g ∷ []));
-  named = good.named;
-  ahead = subst (λ H. IsAhead A gens H spec) (sym (take-append-le spec.prefix G (g ∷ []) good.within)) good.ahead;
-}
 
 module _ (A : Algebra) (gens : List Polynomial) (s t : State) (grew : Grew s t) where
   grown : (P : List Polynomial → Type 0) → ((g : Polynomial) → P s.basis → P (s.basis ++ g ∷ [])) → P s.basis → P t.basis
@@ -117,15 +101,6 @@ module _ (A : Algebra) (gens : List Polynomial) (s t : State) (grew : Grew s t) 
   prefix-on m = grown (λ G. m ≤ length G) (λ g h. omega (arith, h, length-append s.basis (g ∷ [])))
 
 -- ---- lists
-
-Each-both : {X : Type 0} (P Q : X → Type 0) (xs : List X) → Each P xs → Each Q xs → Each (λ x. P x × Q x) xs
-Each-both P Q [] p q = tt
-Each-both P Q (x ∷ xs) p q = ((p.0, q.0), Each-both P Q xs p.1 q.1)
-
-Each-set : {X : Type 0} (P : X → Type 0) (xs : List X) (k : ℕ) (y : X) → Each P xs → P y → Each P (slice_set xs k y)
-Each-set P [] k y h here = tt
-Each-set P (x ∷ xs) zero y h here = (here, h.1)
-Each-set P (x ∷ xs) (suc k) y h here = (h.0, Each-set P xs k y h.1 here)
 
 Each-index : {X : Type 0} (P : X → Type 0) (xs : List X) (k : ℕ) (d : X) → Each P xs → P d → P (slice_index_or xs k d)
 Each-index P [] k d h none = none
@@ -194,26 +169,6 @@ Each-with P a (x ∷ hands) here h = by (nat_lt a.seat x.seat) (Each-with P a ha
     by true ih = (here, h)
     by false ih = (h.0, ih)
 
--- ---- a hand's Spec
-
-within-named : (A : Algebra) (gens G : List Polynomial) (m : ℕ) (job : Job) → IsNamed A gens G job → names_within m job ≡ true → IsJob (length gens) m A.order.vars job
-within-named A gens G m (Seed s) named e = named.0
-within-named A gens G m (Pair i j) named e = (named.0.0, named.0.1, grind (arith, nat_tests))
-within-named A gens G m (Right i v) named e = (named.0.0, grind (arith, nat_tests), named.0.2, named.0.3)
-
-pub spec_of-good : (A : Algebra) (gens G : List Polynomial) (h : Hand) → IsNamed A gens G h.job → h.prefix ≤ length G → IfSome (spec_of A gens G h) (IsGood A gens G)
-spec_of-good A gens G h named le = by (names_within h.prefix h.job) refl (start_of A gens (take h.prefix G) h.job) refl
-  where
-    by : (t : Bool) → names_within h.prefix h.job ≡ t → (o : Option Polynomial) → start_of A gens (take h.prefix G) h.job ≡ o
-        → IfSome (if t then spec_from A (take h.prefix G) h.prefix h.job o else None) (IsGood A gens G)
-    by false e o is = tt
-    by true e None is = tt
-    by true e (Some start) is = record {
-      within = le;
-      named = within-named A gens G h.prefix h.job named e;
-      ahead = (start, is, refl, refl);
-    }
-
 -- ---- each event keeps what every world has
 
 module _ (A : Algebra) (ok : IsGAlgebra A) (gens : List Polynomial) (gens_are : Each (IsPolynomial A.p A.order) gens) (mode : Mode) (budget : ℕ) where
@@ -280,7 +235,7 @@ module _ (A : Algebra) (ok : IsGAlgebra A) (gens : List Polynomial) (gens_are : 
 
       left : Each P (off_board w.log w.state.queue)
       left = Each-filter P (λ j. is_off (standing w.log j)) w.state.queue
-          (Each-both _ _ w.state.queue (Each-queued (WasQueued w.state) w.state.queue (λ j e. queued_left w.state.queue (map job_of w.state.entries) j e)) fit.state.jobs)
+          (Each-both _ _ _ (λ job waits is. (waits, is)) w.state.queue (Each-queued (WasQueued w.state) w.state.queue (λ j e. queued-first w.state.queue (map job_of w.state.entries) j e)) fit.state.jobs)
 
       by : (shut : Bool) (jobs : List Job) → Each P jobs → Fit (if shut then w else offer_first A gens w jobs)
       by true jobs h = fit
@@ -382,7 +337,7 @@ module _ (A : Algebra) (ok : IsGAlgebra A) (gens : List Polynomial) (gens_are : 
       by None e = fit
       by (Some h) e =
           let is = fit-hand w seat h fit e in
-          fit-leaves w h (spec_of A gens w.state.basis h) fit (ap (hand_at w.hands) is.0 ∙ e) (spec_of-good A gens w.state.basis h is.1.2 is.1.1)
+          fit-leaves w h (spec_of A gens w.state.basis h) fit (ap (hand_at w.hands) is.0 ∙ e) (spec_over-good A gens w.state.basis h.prefix h.job is.1.2 is.1.1)
 
   fit-releases : (w : CoreWorld) (seat : ℕ) → Fit w → Fit (release_hand w (hand_at w.hands seat))
   fit-releases w seat fit = by (hand_at w.hands seat) refl

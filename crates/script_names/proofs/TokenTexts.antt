@@ -21,6 +21,7 @@ use Rattle.plural_lexer.specs.Tokens.{IsLexed, AreTokensOf, behind, token_at}
 use Rattle.plural_lexer.specs.Tokens.IsLexed.{ends, blank, takes, fails}
 use Rattle.plural_syntax.specs.Words.{text_of}
 use Rattle.plural_text.specs.Names.{IsName}
+use Rattle.plural_text.proofs.Characters.{letter_in_name}
 
 -- ---- bytes
 
@@ -40,9 +41,6 @@ prefix-passes test (b ∷ bs) = by (test b) refl (prefix-passes test bs) where
   by : (c : Bool) → test b ≡ c → Each (Passes test) (take (prefix_len test bs) bs) → Each (Passes test) (take (prefix_len test (b ∷ bs)) (b ∷ bs))
   by true e h = subst (λ k. Each (Passes test) (take k (b ∷ bs))) (sym (prefix_len-suc test b bs e)) (e, h)
   by false e h = subst (λ c. Each (Passes test) (take (cond c (1 + prefix_len test bs) 0) (b ∷ bs))) (sym e) tt
-
-letter_in_name : (b : ℕ) → is_letter b ≡ true → is_name_byte b ≡ true
-letter_in_name b h = rw h refl
 
 -- by the test that a byte with which a name goes on passes first
 name_byte_cases : (c : ℕ) {A : Type 0} (x y : Bool) → is_letter c ≡ x → is_digit c ≡ y → is_name_byte c ≡ true

@@ -120,7 +120,7 @@ fn push_item(
     let Some(block) = block_of(alloc, bytes, left, name, &item.numbers)? else {
         return Err(Stop::Refused(Refusal::BadOrder));
     };
-    let len = length_of(&block);
+    let len = block.covered();
     if len > left {
         return Err(Stop::Refused(Refusal::BadOrder));
     }
@@ -139,17 +139,6 @@ fn is_component(name: &[u8]) -> bool
     ensures { result ≡ spec.is_component name.now }
 {
     name == b"c".as_slice() || name == b"C".as_slice()
-}
-
-// How many variables a block covers.
-fn length_of(block: &Block) -> usize
-    ensures { result ≡ block_len block.now }
-{
-    match block {
-        Block::Extra { .. } => 0,
-        Block::Lex { len } | Block::DegRev { len } | Block::DegLex { len } => *len,
-        Block::WeightRev { weights } | Block::WeightLex { weights } => weights.as_slice().len(),
-    }
 }
 
 // An item's block, if it has one.

@@ -1,7 +1,6 @@
 -- A step subtracts a multiple of an element: the terms above its target stay, and all behind them is below it.
 use Rattle.std.proofs.Common.{◌≡◌, ◌≢◌, ℕ, ◌+◌, ◌-◌, ◌*◌, ◌<◌, ◌≤◌, ◌⊎◌, inl, inr, true, Less, Equal, Greater, List, [], ◌∷◌, ◌++◌, length, refl, sym, ap, ◌∙◌, subst, arith}
 use Rattle.std.proofs.Math.Nat.{mod-eq_of_lt}
-use Rattle.std.proofs.lemmas.Bool.{leb-true}
 use Rattle.monomials.specs.Monomials.{Monomial, degree, plus, minus}
 use Rattle.monomials.specs.Polynomials.{Polynomial, Each, HasVars, IsCanonical, IsPolynomial, cons_nonzero, insert_term, poly_add, poly_scale, poly_degree}
 use Rattle.monomials.specs.Leading.{leading_monomial, leading_coefficient}
@@ -17,6 +16,8 @@ use Rattle.word_model.specs.Conditions.{NonZero, IsGAlgebra}
 use Rattle.word_model.specs.Products.{degree_limit}
 use Rattle.word_model.specs.Reduction.{element, quotient, multiple, is_within, step_by, less_step}
 use Rattle.word_model.specs.declared.records.TraceStep.{TraceStep}
+use Rattle.word_model.proofs.Reach.{within-degrees}
+use Rattle.word_model.proofs.TermProducts.{product-zero}
 use Rattle.word_model.proofs.NormalForms.{row_weight, weigh-product, product_is_polynomial, same_weights}
 use Rattle.word_model.proofs.PairCofactors.{length-leading_monomial}
 use Rattle.word_model.proofs.LeadingMonomials.{order, NonZero-below, rest_below, leading_monomial-product}
@@ -126,6 +127,13 @@ module _ (A : Algebra) (ok : IsGAlgebra A) where
       leading_monomial-product A ok.field ok.downward ok.nonzero ((1, m) ∷ []) g (λ e. cc) nonzero
       (record { canonical = (omega arith, ok.field.more, tt, tt); vars = (vars, tt) }) g_is
 
+  -- a multiple that is computed has no degree above the limit
+  pub multiple-low : (c : ℕ) (m : Monomial) (g : Polynomial) → length m ≡ A.order.vars → HasVars A.order.vars g → is_within m g ≡ true
+      → poly_degree (multiple A c m g) ≤ degree_limit
+  multiple-low c m [] vars g_vars within = omega (arith, ap poly_degree (product-zero A ((c, m) ∷ [])))
+  multiple-low c m (t ∷ g) vars g_vars within =
+      omega (arith, poly_degree-product A ok.downward ((c, m) ∷ []) (t ∷ g) (vars, tt) g_vars, within-degrees m (t ∷ g) (λ e. cc) within)
+
   -- ---- steps
 
   -- what any step leaves is a polynomial
@@ -141,7 +149,7 @@ module _ (A : Algebra) (ok : IsGAlgebra A) where
       → poly_degree (less_step A G h (record { coef = c; mono = m; index = i })) ≤ D
   less_step-degree D wide G h c m i vars g_vars within low =
       let product_low : poly_degree (multiple A c m (element G i)) ≤ D =
-      omega (arith, poly_degree-product A ok.downward ((c, m) ∷ []) (element G i) (vars, tt) g_vars, leb-true (degree m + poly_degree (element G i)) degree_limit within, wide) in
+      omega (arith, multiple-low c m (element G i) vars g_vars within, wide) in
       poly_degree-le (less_step A G h (record { coef = c; mono = m; index = i })) D
       (EachKey-poly_add (order A) A.p (λ k. degree k ≤ D) h (poly_scale A.p (A.p - 1) (multiple A c m (element G i)))
       (HasDegrees-poly_degree h D low)

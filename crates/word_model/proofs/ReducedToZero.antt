@@ -1,7 +1,6 @@
 -- What is reduced to zero by a list is so by a longer one, and what leaves a rest is reduced to zero where the rest, made
 -- monic, is added to the list.
-use Rattle.std.proofs.Common.{◌≡◌, ◌≢◌, ℕ, suc, ◌+◌, ◌-◌, ◌*◌, ◌≤◌, true, false, List, [], ◌∷◌, ◌++◌, length, Option, Some, None, if◌then◌else◌, refl, sym, ap, ◌∙◌, subst, arith, length-append}
-use Rattle.std.proofs.lemmas.Bool.{le-leb}
+use Rattle.std.proofs.Common.{◌≡◌, ◌≢◌, ℕ, suc, ◌-◌, ◌*◌, ◌≤◌, true, false, List, [], ◌∷◌, ◌++◌, length, Option, Some, None, if◌then◌else◌, refl, sym, ap, ◌∙◌, subst, arith, length-append}
 use Rattle.monomials.specs.Monomials.{Monomial, degree, one, minus, divides}
 use Rattle.monomials.specs.Leading.{leading_monomial, leading_coefficient}
 use Rattle.monomials.specs.Polynomials.{Polynomial, Each, poly_degree}
@@ -15,6 +14,7 @@ use Rattle.word_model.specs.Reduction.{element, lead_divides, first_divisor, quo
 use Rattle.word_model.specs.Machine.{IsElement}
 use Rattle.word_model.specs.Ideals.{ReducesToZero}
 use Rattle.word_model.specs.declared.records.TraceStep.{TraceStep}
+use Rattle.word_model.proofs.Reach.{degrees-within}
 use Rattle.word_model.proofs.NormalForms.{same_weights}
 use Rattle.word_model.proofs.LeastNumbers.{least_number-is, first_divisor-none}
 use Rattle.word_model.proofs.Divisions.{quotient-times}
@@ -104,7 +104,7 @@ module _ (A : Algebra) (ok : IsGAlgebra A) where
     new_step low i =
         let s : TraceStep = step_by A u i g in
         let none : degree s.mono ≡ 0 = ap degree is_one ∙ sum-zeros A.order.vars in
-        let within : is_within s.mono g ≡ true = le-leb (degree s.mono + poly_degree g) degree_limit (omega (arith, none, low)) in
+        let within : is_within s.mono g ≡ true = degrees-within s.mono g (omega (arith, none, low)) in
         (s, ap (λ b. if b then Goes s (less s.mono) else Undefined) within ∙ ap (Goes s) (ap less is_one ∙ gone))
 
     abbrev G' : List Polynomial

@@ -1,19 +1,15 @@
 -- A word without descents is the sorted word of its monomial.
-use Rattle.std.proofs.Common.{◌≡◌, ℕ, zero, suc, ◌+◌, ◌<◌, ◌≤◌, ◌⊎◌, inl, inr, List, [], ◌∷◌, ◌++◌, replicate, None, sym, ap, ◌∙◌, refl, arith, le_trans}
+use Rattle.std.proofs.Common.{◌≡◌, ℕ, zero, suc, ◌+◌, ◌<◌, ◌≤◌, ◌⊎◌, inl, inr, [], ◌∷◌, ◌++◌, replicate, None, sym, ap, ◌∙◌, refl, arith, le_trans}
 use Rattle.monomials.specs.Polynomials.{Each}
 use Rattle.monomials.proofs.Keys.{Each-weaker}
 use Rattle.word_model.specs.Words.{Word, IsWord, count_of, counts_from, monomial_of, word_from, sorted_word, leftmost_descent}
-use Rattle.word_model.proofs.Letters.{count_of-same, count_of-other, counts_from-lower}
+use Rattle.word_model.proofs.Letters.{Each-both, count_of-same, count_of-other, counts_from-lower}
 use Rattle.word_model.proofs.Descents.{rising}
 use Rattle.word_model.proofs.LeastNumbers.{here_or_later}
 
 -- all letters are among the n variables from number i on
 abbrev pub IsBetween : ℕ → ℕ → Word → Type 0
 IsBetween i n w = Each (λ y. (i ≤ y) × (y < i + n)) w
-
-both_hold : {X : Type 0} (P Q : X → Type 0) (xs : List X) → Each P xs → Each Q xs → Each (λ x. P x × Q x) xs
-both_hold P Q [] h k = tt
-both_hold P Q (x ∷ xs) h k = ((h.0, k.0), both_hold P Q xs h.1 k.1)
 
 count_of-absent : (i : ℕ) (w : Word) → Each (λ y. suc i ≤ y) w → count_of i w ≡ 0
 count_of-absent i [] h = refl
@@ -35,7 +31,7 @@ module _ (i n : ℕ) (later : (w : Word) → IsBetween (suc i) n w → leftmost_
       by ih (inr above) =
           let rest : Each (λ y. suc i ≤ y) w = Each-weaker _ _ (λ y le. le_trans above le) w (rising x w e).0 in
           let all : IsBetween (suc i) n (x ∷ w) =
-          ((above, omega (arith, h.0.1)), both_hold _ _ w rest (Each-weaker _ _ (λ y lt. omega (arith, lt.1)) w h.1)) in
+          ((above, omega (arith, h.0.1)), Each-both _ _ _ (λ y above below. (above, below)) w rest (Each-weaker _ _ (λ y lt. omega (arith, lt.1)) w h.1)) in
           ap (λ c. replicate c i ++ word_from (suc i) (counts_from (suc i) n (x ∷ w))) (count_of-absent i (x ∷ w) (above, rest)) ∙ later (x ∷ w) all e
 
 word_from-counts_from : (i n : ℕ) (w : Word) → IsBetween i n w → leftmost_descent w ≡ None → word_from i (counts_from i n w) ≡ w

@@ -14,6 +14,7 @@ use Rattle.word_model.specs.declared.records.Job.{Job}
 use Rattle.word_model.specs.declared.records.Job.TheVariants.{Seed, Pair, Right}
 use Rattle.word_model.proofs.Degrees.{HasDegrees, HasDegrees-poly_degree, poly_degree-le, poly_degree-product}
 use Rattle.word_model.proofs.LeastNumbers.{Each-element}
+use Rattle.word_model.proofs.Multiples.{multiple-low}
 use Rattle.word_model.proofs.Divisions.{length-minus}
 use Rattle.word_model.proofs.CommonMultiples.{length-lcm}
 use Rattle.word_model.proofs.Associativity.{length-variable}
@@ -46,9 +47,7 @@ start_of-right A gens G i v h e = by (in_reach (element G i) (variable_polynomia
 
 module _ (A : Algebra) (ok : IsGAlgebra A) where
   multiple_degree : (c : ℕ) (m : Monomial) (g : Polynomial) → length m ≡ A.order.vars → HasVars A.order.vars g → is_within m g ≡ true → HasDegrees degree_limit (multiple A c m g)
-  multiple_degree c m g hm hg within =
-      let low : degree m + poly_degree g ≤ degree_limit = leb-true (degree m + poly_degree g) degree_limit within in
-      HasDegrees-poly_degree (multiple A c m g) degree_limit (omega (arith, poly_degree-product A ok.downward ((c, m) ∷ []) g (hm, tt) hg, low))
+  multiple_degree c m g hm hg within = HasDegrees-poly_degree (multiple A c m g) degree_limit (multiple-low A ok c m g hm hg within)
 
   right_degree : (f : Polynomial) (v : ℕ) → HasVars A.order.vars f → 1 ≤ v → v ≤ A.order.vars → f ≢ [] → in_reach f (variable_polynomial A v) ≡ true → poly_degree (product A f (variable_polynomial A v)) ≤ degree_limit
   right_degree [] v vars low high nonzero within = absurd (nonzero refl)

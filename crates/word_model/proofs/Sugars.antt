@@ -1,5 +1,4 @@
 -- Sugars: an element's sugar is at least its degree.
-use Rattle.std.proofs.lemmas.Bool.{leb-true}
 use Rattle.std.proofs.lemmas.List.Sums.{sum_by-cons}
 use Rattle.std.proofs.Common.{◌≡◌, ℕ, zero, suc, ◌+◌, ◌-◌, ◌<◌, ◌≤◌, max, true, List, [], ◌∷◌, ◌++◌, length, Option, Some, None, slice_index_or, refl, sym, ap, ◌∙◌, subst, arith}
 use Rattle.monomials.specs.Monomials.{Monomial, degree, plus, minus, lcm}
@@ -15,6 +14,7 @@ use Rattle.word_model.specs.Machine.{IsElement}
 use Rattle.word_model.specs.declared.records.Job.{Job}
 use Rattle.word_model.specs.declared.records.Job.TheVariants.{Seed, Pair, Right}
 use Rattle.word_model.specs.declared.records.TraceStep.{TraceStep}
+use Rattle.word_model.proofs.Reach.{within-degrees}
 use Rattle.word_model.proofs.Degrees.{HasDegrees-poly_degree, poly_degree-le, poly_degree-product}
 use Rattle.word_model.proofs.LeastNumbers.{Each-element}
 use Rattle.word_model.proofs.Divisions.{length-minus, plus-minus}
@@ -169,7 +169,7 @@ module _ (A : Algebra) (G : List Polynomial) where
           let m : Monomial = (step_by A t i (element G i)).mono in
           let goes : (is_within m (element G i) ≡ true) × (step_by A t i (element G i) ≡ s) × (less_step A G h (step_by A t i (element G i)) ≡ h') =
           next_step-goes A G h t i s h' e in
-          let low : degree m + poly_degree (element G i) ≤ degree_limit = leb-true (degree m + poly_degree (element G i)) degree_limit goes.0 in
+          let low : degree m + poly_degree (element G i) ≤ degree_limit = within-degrees m (element G i) picked.divisor.nonzero goes.0 in
           subst (λ (s : TraceStep). (1 ≤ s.index) × (s.index ≤ length G) × (degree s.mono ≤ degree_limit)) goes.1
           (picked.divisor.low, picked.divisor.high, omega (arith, low))
 

@@ -1,7 +1,6 @@
 -- The steps of a reduction, by whichever of the targets, are steps by its elements.
 use Rattle.std.proofs.Common.{◌≡◌, ◌≢◌, ℕ, zero, suc, ◌+◌, ◌*◌, ◌%◌, ◌<◌, ◌≤◌, true, List, [], ◌∷◌, ◌++◌, length, Option, Some, None, refl, sym, ap, ◌∙◌, subst, arith, mod-lt}
 use Rattle.std.proofs.Math.Nat.{mod-eq_of_lt}
-use Rattle.std.proofs.lemmas.Bool.{leb-true}
 use Rattle.std.specs.declared.cmp.Ordering.{Ordering}
 use Rattle.monomials.specs.Monomials.{Monomial, degree, minus}
 use Rattle.monomials.specs.Polynomials.{Polynomial, Each, IsCanonical, IsPolynomial, poly_degree}
@@ -12,6 +11,7 @@ use Rattle.word_model.specs.Conditions.{NonZero, IsField, IsGAlgebra}
 use Rattle.word_model.specs.Products.{degree_limit}
 use Rattle.word_model.specs.Reduction.{element, quotient, multiple, is_within, Target, leading_target, greatest_target, tail_target, step_by, Next, Ends, Undefined, Goes, next_step, after_step, steps_within, enough_steps, reduce, normal_form_by, reduce_tail}
 use Rattle.word_model.specs.declared.records.TraceStep.{TraceStep}
+use Rattle.word_model.proofs.Reach.{within-degrees}
 use Rattle.word_model.proofs.Divisions.{quotient-times}
 use Rattle.word_model.proofs.LeastNumbers.{Each-element}
 use Rattle.word_model.proofs.NormalForms.{product_is_polynomial}
@@ -56,7 +56,7 @@ module _ (A : Algebra) (ok : IsGAlgebra A) (G : List Polynomial) (elements : Eac
         let q_is : IsPolynomial A.p A.order q = product_is_polynomial A ok.field.more ((1, m) ∷ []) (element G i) in
         let q_some : q ≢ [] = (multiple-leading A ok m (element G i) vars g_is picked.divisor.nonzero).0 in
         let number : (0 < t.0) × (t.0 < A.p) = number_inside _ A.p picked.above t picked.rest whole.canonical in
-        let low : degree m + poly_degree (element G i) ≤ degree_limit = leb-true (degree m + poly_degree (element G i)) degree_limit goes.0 in
+        let low : degree m + poly_degree (element G i) ≤ degree_limit = within-degrees m (element G i) picked.divisor.nonzero goes.0 in
         let step : IsStep A (length G) (step_by A t i (element G i)) =
         record {
           some = quotient-some A.p t.0 (leading_coefficient q) ok.field number.0 number.1 (leading_coefficient-nonzero A q q_is.canonical q_some);

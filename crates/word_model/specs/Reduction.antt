@@ -1,13 +1,13 @@
 -- Reduction of a polynomial by a list of polynomials, with its trace.
-use Rattle.std.specs.Prelude.{ℕ, zero, suc, ◌+◌, ◌-◌, ◌^◌, max, nat_le, Bool, true, false, List, [], ◌∷◌, length, drop, slice_index_or, Option, Some, None, if◌then◌else◌}
+use Rattle.std.specs.Prelude.{ℕ, zero, suc, ◌-◌, ◌^◌, max, Bool, true, false, List, [], ◌∷◌, length, drop, slice_index_or, Option, Some, None, if◌then◌else◌}
 pub use Rattle.prime_field.specs.Modular.{quotient}
-use Rattle.monomials.specs.Monomials.{Monomial, degree, minus}
+use Rattle.monomials.specs.Monomials.{Monomial, minus}
 use Rattle.monomials.specs.Orders.{order_cmp}
 use Rattle.monomials.specs.Polynomials.{Polynomial, poly_sub, poly_degree}
 pub use Rattle.monomials.specs.Leading.{lead_divides}
 use Rattle.monomials.specs.Leading.{leading_monomial, leading_coefficient}
 use Rattle.word_model.specs.Words.{Algebra}
-use Rattle.word_model.specs.Products.{product, degree_limit}
+use Rattle.word_model.specs.Products.{product, degree_limit, in_reach}
 use Rattle.word_model.specs.declared.records.TraceStep.{TraceStep}
 
 -- the polynomial of number i in a list, which counts from 1
@@ -27,9 +27,9 @@ first_divisor G m = least_number (λ i. lead_divides (element G i) m) 1 (length 
 abbrev pub multiple : Algebra → ℕ → Monomial → Polynomial → Polynomial
 multiple A c m g = product A ((c, m) ∷ []) g
 
--- whether a term with monomial m times g is computed
+-- whether a term with monomial m times g is computed, whatever its number
 abbrev pub is_within : Monomial → Polynomial → Bool
-is_within m g = nat_le (degree m + poly_degree g) degree_limit
+is_within m g = in_reach ((1, m) ∷ []) g
 
 -- ---- one step
 

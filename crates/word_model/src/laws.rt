@@ -1,6 +1,6 @@
 //! Laws of words and products, each the contract of a function without a body.
 
-ghost use Rattle.std.specs.Prelude.{◌≡◌, ◌≢◌, ℕ, suc, ◌+◌, ◌-◌, ◌*◌, ◌<◌, ◌≤◌, ◌⊎◌, List, [], ◌∷◌, ◌++◌, length, Option, Some, None};
+ghost use Rattle.std.specs.Prelude.{◌≡◌, ◌≢◌, ℕ, suc, ◌+◌, ◌-◌, ◌*◌, ◌<◌, ◌≤◌, ◌⊎◌, nat_le, List, [], ◌∷◌, ◌++◌, length, Option, Some, None};
 ghost use Rattle.prime_field.specs.Modular.{IsPrime};
 ghost use Rattle.monomials.specs.Monomials.{Monomial, degree, plus, variable};
 ghost use Rattle.monomials.specs.Orders.{order_cmp};
@@ -8,7 +8,7 @@ ghost use Rattle.monomials.specs.Polynomials.{Polynomial, HasVars, IsPolynomial,
 ghost use Rattle.word_model.specs.Words.{Algebra, Word, WordSum, IsWord, pair_index, pair_monomial, monomial_of, sorted_word, Descent, leftmost_descent, rewritten, normal_form, word_value, RewritesDown};
 ghost use Rattle.monomials.specs.Leading.{leading_monomial};
 ghost use Rattle.word_model.specs.Conditions.{Fault, pair_fault, triple_fault, triple_rest, first_from, relations_fault, NonZero, IsField, HasNonzeroNumbers, IsAlgebraData, IsGAlgebra};
-ghost use Rattle.word_model.specs.Products.{product, letters_product, times_letters, in_reach};
+ghost use Rattle.word_model.specs.Products.{product, letters_product, times_letters, degree_limit, in_reach};
 ghost use Rattle.word_model.specs.Reduction.{is_within};
 ghost use Rattle.word_model.specs.TwoVariables.{two_variables};
 
@@ -94,11 +94,13 @@ pub fn degree_bound()
         HasVars A.order.vars g → poly_degree (product A f g) ≤ poly_degree f + poly_degree g }
 {}
 
-/// A step's product is within the limit of degrees exactly where a product of polynomials is: the two
-/// tests agree on each term and each polynomial other than zero.
+/// Whether a step's product is within the limit of degrees does not depend on its number, and for a
+/// polynomial other than zero it is so exactly where the two degrees add up to at most the limit.
 pub fn steps_in_reach()
-    ensures { (c : ℕ) (m : Monomial) (g : Polynomial) → g ≢ [] →
+    ensures any_number { (c : ℕ) (m : Monomial) (g : Polynomial) →
         is_within m g ≡ in_reach ((c, m) ∷ []) g }
+    ensures degrees { (m : Monomial) (g : Polynomial) → g ≢ [] →
+        is_within m g ≡ nat_le (degree m + poly_degree g) degree_limit }
 {}
 
 /// Products of nonzero polynomials are not zero, and leading monomials multiply: over a field,

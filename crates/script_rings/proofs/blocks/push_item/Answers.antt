@@ -7,7 +7,7 @@ pub returns-then-len-left-clause-refused : goal.returns-then-len-left-clause-ref
 returns-then-len-left-clause-refused c = λ n rest some behind.
     walked-long c.args.bytes.now n c.args.blocks.now.items c.args.item.now rest c.text-name.result.now c.text-name.ensures
     (sym c.is_component.ensures ∙ c.if-is_component.false) c.args.left some c.in-Some.block (sym c.in-Some.is ∙ c.in_ok-block.ensures)
-    (omega (arith, c.if-len-left.true, c.length_of-len.ensures))
+    (omega (arith, c.if-len-left.true, c.covered-len.ensures))
 
 pub returns-clause-goes_on : goal.returns-clause-goes_on
 returns-clause-goes_on c = λ n rest some behind.

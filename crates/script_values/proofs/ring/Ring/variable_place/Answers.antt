@@ -3,7 +3,8 @@ use Rattle.std.specs.Prelude.{bytes_eq, position, string_bytes}
 use Rattle.std.proofs.lemmas.Iterator.{YieldsList-from_slice}
 use Rattle.std.proofs.lemmas.Iterator.Search.{position_from_yields_List}
 use Rattle.script_model.specs.Environment.{Ring, variable_place}
-use Rattle.script_values.proofs.Places.{position-map, place_within}
+use Rattle.plural_text.proofs.Steps.{position-map}
+use Rattle.script_values.proofs.Places.{place_within}
 use Rattle.script_values.proofs.ring.Ring.variable_place.Goals as goal
 
 pub returns-clause-value : goal.returns-clause-value

@@ -295,3 +295,11 @@ fn polynomials_fit(rt: HostRuntime) -> Result<(), Fail> {
     }
     Ok(())
 }
+
+/// Threads may share and send values of this type.
+fn shared<T: Sync + Send>() {}
+
+#[test]
+fn threads_share_algebras() {
+    shared::<Algebra>();
+}

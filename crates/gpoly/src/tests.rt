@@ -233,3 +233,13 @@ fn gathers_in_buckets(rt: HostRuntime) -> Result<(), Fail> {
     assert_eq!(rt; poly.into_multiple(field, 3).terms()[0].coef, 3);
     Ok(())
 }
+
+/// Threads may share and send values of this type.
+fn shared<T: Sync + Send>() {}
+
+#[test]
+fn threads_share_polynomials_and_their_fields() {
+    shared::<Field>();
+    shared::<Term>();
+    shared::<GPoly>();
+}

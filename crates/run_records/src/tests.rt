@@ -85,3 +85,16 @@ fn entries_are_copied(rt: HostRuntime) -> Result<(), Fail> {
     assert!(rt; is_copied(alloc, &new)?);
     Ok(())
 }
+
+/// Threads may share and send values of this type.
+fn shared<T: Sync + Send>() {}
+
+#[test]
+fn threads_share_records() {
+    shared::<Job>();
+    shared::<TraceStep>();
+    shared::<Trace>();
+    shared::<Entry>();
+    shared::<Spec>();
+    shared::<Journal>();
+}

@@ -159,3 +159,18 @@ fn products_of_powers(rt: HostRuntime) -> Result<(), Fail> {
     }
     Ok(())
 }
+
+/// Threads may share and send values of this type.
+fn shared<T: Sync + Send>() {}
+
+// Also a table and its seats, for any time that they live.
+fn tables_are_shared<'t, 'r>() {
+    shared::<Table<'r>>();
+    shared::<TableSeat<'t, 'r>>();
+}
+
+#[test]
+fn threads_share_tables_and_send_seats() {
+    shared::<Place>();
+    tables_are_shared();
+}

@@ -26,7 +26,8 @@ use std::sync::{Condvar, Mutex, Wait};
 /// What a leader and its workers share: a board under a lock, a table of products, and a shelf of
 /// elements. The leader sits at seat 0, the workers at the seats from 1 on.
 ///
-/// These are the atomic steps on it, and there are no others. Each is an event of the core, of which
+/// These are the atomic steps on it that change something, and there are no others (`standing`,
+/// `hand`, `closed`, `seats` and `log` of the board only look). Each is an event of the core, of which
 /// any order comes to a sound world, or none:
 ///
 /// | Step | On | Event |
@@ -106,10 +107,10 @@ impl<'s, 'r, G: Gate> Desk<'s, 'r, G> {
     }
 
     /// The leader goes on with the lead until its run is over. `lead` is of the desk's algebra, new or
-    /// begun; where its generators are not the desk's, it uses nothing that workers publish. Under
-    /// `Wait`: for the lock and no publication. Whatever it takes from the board, the journal is that
-    /// of the machine: each publication is compared with the lead before it is relied on. It closes
-    /// the board before it answers, also where memory is wanting, and the lead is gone then.
+    /// begun. Under `Wait`: for the lock and no publication. Whatever it takes from the board, the
+    /// journal is that of the machine: each publication is compared with the lead before it is relied
+    /// on. It closes the board before it answers, also where memory is wanting, and the lead is gone
+    /// then.
     pub fn lead<R: Wait>(&self, rt: &R, alloc: Global, lead: Lead) -> Result<Journal, AllocError>
         requires algebra { lead.algebra ≡ self.now.algebra }
         ensures { IfOk result (λ journal. journal ≡ machine lead.algebra lead.generators lead.mode lead.budget) }

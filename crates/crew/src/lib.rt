@@ -14,3 +14,5 @@ mod gates;
 mod locked;
 mod sealed;
 mod shelf;
+#[cfg(test)]
+mod tests;

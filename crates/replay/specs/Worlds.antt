@@ -207,7 +207,7 @@ abbrev pub WasQueued : State → Job → Type 0
 WasQueued s job = is_queued (s.queue ++ map job_of s.entries) job ≡ true
 
 -- The commits are a part of the machine's run from its beginning; all Specs are good; each job on the board is or was
--- queued; the hands are those of the board, by rising seats up to 64, and no prefix is longer than the basis.
+-- queued; the hands are those of the board, of seats up to 64, and no prefix is longer than the basis.
 pub record IsSound (A : Algebra) (gens : List Polynomial) (mode : Mode) (budget : ℕ) (w : CoreWorld) : Type 0 where
   pub part : IsPart w.state.entries w.state.basis w.outcome (machine A gens mode budget)
   pub published : Each (λ o. IfSome o (IsGood A gens w.state.basis)) w.kept

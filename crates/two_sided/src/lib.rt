@@ -14,3 +14,6 @@ mod subtracting;
 pub use checking::check_chain;
 pub use making::chain;
 pub use run_records::Chain;
+
+#[cfg(test)]
+mod tests;

@@ -1,0 +1,3 @@
+//! Worked tests.
+
+mod crews;

@@ -1,0 +1,145 @@
+//! Workers beside a leader, over the Heisenberg algebra in x, y, a, b and z modulo 32003.
+
+ghost use Rattle.std.specs.Prelude.{◌≡◌, ◌≤◌, ◌++◌, ◌∷◌, [], IfOk, OnOk, length};
+ghost use Rattle.monomials.specs.Polynomials.{Each, IsPolynomial};
+
+use crate::{Crew, MeetGate};
+use algebra::{Algebra, Relations};
+use commit_core::OneWorker;
+use gpoly::{GPoly, Term};
+use monomials::{Block, Expo, Order};
+use prime_field::Field;
+use run_records::{Engine, Entry, Journal, Mode};
+use std::alloc::{AllocError, Global};
+use std::test::Fail;
+
+// The generators x a, y b, z - 1 and a^2: terms of a number and a digit for each exponent.
+const GENERATORS: &str = "1.10100, 1.01010, 1.00001 32002.00000, 1.00200";
+
+// a x = x a + z and b y = y b + z, and the other pairs commute.
+const RELATIONS: &str = "0.0, 1.00001, 0.0, 0.0, 0.0, 1.00001, 0.0, 0.0, 0.0, 0.0";
+
+fn digit(number: u32, unit: u32) -> u16
+    requires some { 1 ≤ unit }
+    ensures { result ≤ 9 }
+{
+    (number / unit % 10) as u16
+}
+
+fn term(alloc: Global, field: Field, order: &Order, text: &str) -> Result<GPoly, Fail>
+    ensures { IfOk result (λ f. IsPolynomial field order.now f) }
+{
+    let (number, exponents) = text.split_once('.').ok_or("a term has exponents")?;
+    let digits = exponents.parse::<u32>()?;
+    if order.vars() != 5 {
+        return Err("there are five variables".into());
+    }
+    let mono = Expo::of(&[
+        digit(digits, 10000),
+        digit(digits, 1000),
+        digit(digits, 100),
+        digit(digits, 10),
+        digit(digits, 1),
+    ]);
+    let coef = field.from_int(number.parse::<u64>()?);
+    let term = GPoly::from_terms(alloc, field, order, &[Term { coef, mono }])?;
+    Ok(term)
+}
+
+fn poly(alloc: Global, field: Field, order: &Order, text: &str) -> Result<GPoly, Fail>
+    ensures { IfOk result (λ f. IsPolynomial field order.now f) }
+{
+    let mut sum = GPoly::zero(alloc);
+    for piece in text.split(' ') {
+        let part = term(alloc, field, order, piece)?;
+        sum = sum.add(alloc, field, order, &part)?;
+    }
+    Ok(sum)
+}
+
+fn push(polys: &mut Vec<GPoly>, poly: GPoly) -> Result<(), AllocError>
+    ensures { OnOk result (polys.new.items ≡ polys.old.items ++ poly ∷ []) }
+{
+    polys.push(poly)?;
+    Ok(())
+}
+
+// The polynomials between the commas of a text, at most 4096.
+fn polys(alloc: Global, field: Field, order: &Order, text: &str) -> Result<Vec<GPoly>, Fail>
+    ensures sorted { IfOk result (λ fs. Each (IsPolynomial field order.now) fs.items) }
+    ensures few { IfOk result (λ fs. length fs.items ≤ 4096) }
+{
+    let mut polys = Vec::new(alloc);
+    for piece in text.split(", ") {
+        let part = poly(alloc, field, order, piece)?;
+        push(&mut polys, part)?;
+    }
+    if polys.len() > 4096 {
+        return Err("there are at most 4096 polynomials".into());
+    }
+    Ok(polys)
+}
+
+fn heisenberg(alloc: Global) -> Result<Algebra, Fail> {
+    let field = Field::of(32003)?;
+    let order = Order::new(alloc, &[Block::DegRev { len: 5 }], 5)?;
+    let c = Vec::from_array(alloc, [1; 10])?;
+    let d = polys(alloc, field, &order, RELATIONS)?;
+    if d.len() != 10 {
+        return Err("five variables have ten pairs".into());
+    }
+    Ok(Algebra::new(alloc, field, order, 5, Relations { c, d })?)
+}
+
+fn same_entries(one: &Entry, other: &Entry) -> bool {
+    match (one, other) {
+        (Entry::Skipped { job: a, by: k }, Entry::Skipped { job: b, by: l }) => a == b && k == l,
+        (Entry::Zero { job: a, trace: s }, Entry::Zero { job: b, trace: t }) => {
+            a == b && s.steps() == t.steps()
+        }
+        (
+            Entry::New {
+                job: a,
+                trace: s,
+                scale: k,
+            },
+            Entry::New {
+                job: b,
+                trace: t,
+                scale: l,
+            },
+        ) => a == b && s.steps() == t.steps() && k == l,
+        _ => false,
+    }
+}
+
+fn same_journals(one: &Journal, other: &Journal) -> bool {
+    one.outcome == other.outcome
+        && one.entries.len() == other.entries.len()
+        && one.basis.len() == other.basis.len()
+        && one
+            .entries
+            .iter()
+            .zip(other.entries.iter())
+            .all(|(a, b)| same_entries(a, b))
+        && one
+            .basis
+            .iter()
+            .zip(other.basis.iter())
+            .all(|(f, g)| f.equals(g))
+}
+
+// Two workers have the first two jobs in hand at once, and a commit is given what was published.
+#[test]
+fn two_hands_meet(rt: HostRuntime) -> Result<(), Fail> {
+    let alloc = rt.alloc();
+    let alg = heisenberg(alloc)?;
+    let gens = polys(alloc, alg.field(), alg.order(), GENERATORS)?;
+    let gate = MeetGate::new(1_000_000_000);
+    let made = Crew::new(&rt, 2, &gate).basis(alloc, &alg, &gens, Mode::Left, 100_000)?;
+    assert!(rt; gate.met());
+    let alone = OneWorker::new().basis(alloc, &alg, &gens, Mode::Left, 100_000)?;
+    assert_eq!(rt; alone.entries.len(), 14);
+    assert!(rt; same_journals(&made, &alone));
+    Ok(())
+}

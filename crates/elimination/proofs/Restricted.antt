@@ -1,5 +1,5 @@
 -- Lists restricted to polynomials without given variables.
-use Rattle.std.proofs.Common.{◌≡◌, ℕ, Bool, true, false, List, [], ◌∷◌, map, Ordering, Greater, ℤ, pos, if◌then◌else◌, refl, sym, ap, ◌∙◌}
+use Rattle.std.proofs.Common.{◌≡◌, ℕ, Bool, true, false, List, [], ◌∷◌, map, ℤ, pos, if◌then◌else◌, refl, sym, ap, ◌∙◌}
 use Rattle.std.specs.Ordering.{ordering_then, int_cmp, nat_cmp}
 use Rattle.std.specs.Cmp.Lexicographic.{slice_cmp}
 use Rattle.monomials.specs.Monomials.{Monomial}

@@ -1,7 +1,7 @@
 //! Elimination of variables: what an ideal has without them.
 #![tactic(auto)]
 
-ghost use Rattle.std.specs.Prelude.{◌≡◌, ◌≤◌, ◌↔◌, ℕ, List, None, true, All, IfOk, IfErr, OnOk};
+ghost use Rattle.std.specs.Prelude.{◌≡◌, ◌≤◌, ◌↔◌, ℕ, List, None, true, length, All, IfOk, IfErr, OnOk};
 ghost use Rattle.monomials.specs.Orders.{RowOrder};
 ghost use Rattle.monomials.specs.Polynomials.{Polynomial, Each, HasVars, IsPolynomial};
 ghost use Rattle.monomials.specs.WellFounded.{IsWellFounded};
@@ -47,11 +47,7 @@ impl From<AllocError> for ElimFault {
 /// as before: the order of a row `a` with weight 1 at each of them (Singular manual, elimination of
 /// variables). In it the polynomials without them are a subalgebra. There is none where a relation of
 /// the algebra does not fit this order.
-pub fn elimination_algebra(
-    alloc: Global,
-    alg: &Algebra,
-    vars: &[u8],
-) -> Result<Algebra, ElimFault>
+pub fn elimination_algebra(alloc: Global, alg: &Algebra, vars: &[u8]) -> Result<Algebra, ElimFault>
     requires in_range { All (λ v. (1 ≤ v) × (v ≤ alg.now.order.vars)) vars.now }
     ensures algebra { IfOk result (λ a. a ≡ reordered (elimination.elimination_order vars.now alg.now.order) alg.now) }
     ensures accepted { OnOk result (relations_fault (reordered (elimination.elimination_order vars.now alg.now.order) alg.now) ≡ None) }
@@ -79,6 +75,7 @@ pub fn restrict(alloc: Global, list: &[GPoly], vars: &[u8]) -> Result<Vec<GPoly>
     requires { (n : ℕ) × Each (HasVars n) list.now × All (λ v. (1 ≤ v) × (v ≤ n)) vars.now }
     ensures list { IfOk result (λ kept. (n : ℕ) → Each (HasVars n) list.now →
         kept.items ≡ elimination.restricted n vars.now list.now) }
+    ensures fewer { IfOk result (λ kept. length kept.items ≤ length list.now) }
     ensures sorted { IfOk result (λ kept. (p : ℕ) (old : RowOrder) →
         Each (IsPolynomial p (elimination.elimination_order vars.now old)) list.now →
         Each (IsPolynomial p old) kept.items) }

@@ -1,1 +1,2 @@
 mod ShortLists
+mod SortedLists

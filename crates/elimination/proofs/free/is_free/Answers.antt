@@ -1,4 +1,4 @@
-use Rattle.std.proofs.Common.{◌≡◌, ◌≤◌, ◌∙◌, Bool, get_or, sym, subst}
+use Rattle.std.proofs.Common.{◌≤◌, ◌∙◌, Bool, get_or, sym, subst}
 use Rattle.elimination.proofs.FreeTerms.{term_vars, term_decides}
 use Rattle.elimination.proofs.free.is_free.Goals as goal
 

@@ -20,7 +20,7 @@ use Rattle.word_model.proofs.Steps.{machine-elements}
 use Rattle.word_model.proofs.Journals.{behind_all-least, machine-journal}
 use Rattle.cofactors.specs.Rows.{AreTails}
 use Rattle.cofactors.proofs.Finals.{finished-tails}
-use Rattle.plural_text.specs.CertificateTexts.{IsCertificateOf}
+use Rattle.word_model.specs.CertificateTexts.{IsCertificateOf}
 use Rattle.plural_text.specs.Writable.{IsTermOf, IsStartOf, IsLineOf}
 
 module _ (A : Algebra) (gens G : List Polynomial) where

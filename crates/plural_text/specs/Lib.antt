@@ -2,5 +2,4 @@ pub mod Names
 pub mod Readings
 pub mod Spelling
 pub mod Pieces
-pub mod CertificateTexts
 pub mod Writable

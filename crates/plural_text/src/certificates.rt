@@ -5,7 +5,7 @@ ghost use Rattle.std.specs.Fmt.{decimal};
 ghost use Rattle.monomials.specs.Polynomials.{Polynomial, Each};
 ghost use Rattle.word_model.specs.Texts.{number_text};
 ghost use Rattle.word_model.specs.Machine.{IsElement};
-ghost use Rattle.plural_text.specs.CertificateTexts.{IsCertificateOf, element_text, step_text, steps_text, start_text, line_text, lines_text, final_text, finals_text, certificate_text};
+ghost use Rattle.word_model.specs.CertificateTexts.{IsCertificateOf, element_text, step_text, steps_text, start_text, line_text, lines_text, final_text, finals_text, certificate_text};
 ghost use Rattle.word_model.specs.declared.records.Job.TheVariants.{Pair};
 ghost use Rattle.plural_text.specs.Names.{AreNames};
 ghost use Rattle.plural_text.specs.Writable.{IsTermOf, IsStartOf, IsLineOf};

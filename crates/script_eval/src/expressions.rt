@@ -13,7 +13,7 @@ use gproduct::TableSeat;
 use plural_lexer::Token;
 use plural_syntax::{Added, Base, Expr, ExprList, Factor, Function, Power, Scaled, Term};
 use run_records::Engine;
-use script_functions::{apply, is_built};
+use script_functions::apply;
 use script_model::values::{Refusal, Value};
 use script_values::assigning::poly_of;
 use script_values::names::named;
@@ -225,7 +225,7 @@ fn base<E: Engine>(
     }
 }
 
-// A function at its arguments, which are not evaluated where it is not built.
+// A function at its arguments.
 #[cycle(evaluate)]
 fn called<E: Engine>(
     scope: &Scope,
@@ -242,9 +242,6 @@ fn called<E: Engine>(
     ensures ready { E.can_run engine.new }
     ensures seat { seat.new.algebra ≡ seat.old.algebra }
 {
-    if !is_built(function) {
-        return Err(Stop::Refused(Refusal::NotBuilt));
-    }
     let values = all_values(scope, engine, seat, levels, arguments)?;
     apply(scope, engine, seat, function, values)
 }

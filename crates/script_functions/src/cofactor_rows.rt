@@ -1,18 +1,21 @@
 //! Rows of cofactors of left runs.
 
-ghost use Rattle.std.specs.Prelude.{◌≡◌, IfOk};
+ghost use Rattle.std.specs.Prelude.{◌≡◌, ◌≤◌, length, IfOk};
 ghost use Rattle.monomials.specs.Polynomials.{Each};
 ghost use Rattle.word_model.specs.Cofactors.{cofactor_rows};
+ghost use Rattle.word_model.specs.declared.records.Mode.TheVariants.{Left};
 ghost use Rattle.script_model.specs.Functions as spec;
 ghost use Rattle.script_values.specs.Gives.{Gives};
 ghost use Rattle.script_values.specs.Values.{ArePolynomials, IsValueOf};
-ghost use Rattle.script_functions.specs.Inside.LeftBases.{IsLeftBasis};
+ghost use Rattle.script_functions.specs.Inside.Bases.{IsBasisOf};
 
-use crate::left_basis::{LeftBasis, left_basis};
+use crate::bases::{Basis, basis_over};
+use crate::generators::joined;
 use crate::stopping::stop_of;
 use cofactors::rows;
+use gpoly::GPoly;
 use gproduct::{Steps, TableSeat};
-use run_records::{Engine, Row};
+use run_records::{Engine, Mode, Row};
 use script_model::values::Value;
 use script_values::{Scope, Stop};
 use sqlite_items::Items;
@@ -34,8 +37,10 @@ pub(crate) fn cofactors<E: Engine, L: Ledger>(
     ensures ready { E.can_run engine.new }
     ensures seat { seat.new.algebra ≡ seat.old.algebra }
 {
-    let found = left_basis(scope, engine, seat, arguments, steps)?;
-    let rows = rows_of(scope, seat, &found, steps)?;
+    let generators = joined(scope, arguments)?;
+    let generators = generators.as_slice();
+    let found = basis_over(scope, engine, seat, generators, Mode::Left, steps)?;
+    let rows = rows_of(scope, seat, generators, &found, steps)?;
     Ok(Value::Module(rows))
 }
 
@@ -43,15 +48,17 @@ pub(crate) fn cofactors<E: Engine, L: Ledger>(
 fn rows_of<L: Ledger>(
     scope: &Scope,
     seat: &mut TableSeat,
-    found: &LeftBasis,
+    generators: &[GPoly],
+    found: &Basis,
     steps: &mut Steps<L>,
 ) -> Result<Items<Row>, Stop>
-    requires { IsLeftBasis seat.old.algebra scope.now.budget found.now }
-    ensures value { Gives result (spec.reached (cofactor_rows seat.old.algebra found.now.0 found.now.1 found.now.2)) }
+    requires generators { ArePolynomials seat.old.algebra generators.now }
+    requires few { length generators.now ≤ 4096 }
+    requires basis { IsBasisOf seat.old.algebra Left scope.now.budget generators.now found.now }
+    ensures value { Gives result (spec.reached (cofactor_rows seat.old.algebra generators.now found.now.0 found.now.1)) }
     ensures polynomials { IfOk result (λ rows. Each (ArePolynomials seat.old.algebra) rows) }
     ensures seat { seat.new.algebra ≡ seat.old.algebra }
 {
-    let generators = found.generators.as_slice();
     match rows(
         scope.alloc,
         seat,

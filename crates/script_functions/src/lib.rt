@@ -7,39 +7,35 @@ ghost use Rattle.script_model.specs.Functions as spec;
 ghost use Rattle.script_values.specs.Gives.{Gives};
 ghost use Rattle.script_values.specs.Values.{IsValueOf};
 
+use certificates::twochain;
 use cofactor_rows::cofactors;
+use eliminations::eliminate;
 use generators::joined;
 use gproduct::{Steps, TableSeat};
 use normal_forms::normal_form;
 use plural_syntax::Function;
-use run_records::Engine;
-use script_model::values::{Refusal, Value};
+use run_records::{Engine, Mode};
+use script_model::values::Value;
 use script_values::{Scope, Stop};
 use sqlite_items::Items;
 use std::marker::Brand;
 use std::sync::ledger::{Blank, Ledger};
 use std_lists::std_list;
 use summary::summary;
+use syzygy_rows::syz;
 
+mod bases;
+mod certificates;
 mod cofactor_rows;
+mod eliminations;
 mod generators;
-mod left_basis;
 mod normal_forms;
 mod std_lists;
 mod stopping;
 mod summary;
+mod syzygy_rows;
 #[cfg(test)]
 mod tests;
-
-/// Whether a function is built; one that is not is refused before its arguments.
-pub fn is_built(function: Function) -> bool
-    ensures { result ≡ spec.is_built function }
-{
-    !matches!(
-        function,
-        Function::TwoStd | Function::Eliminate | Function::Syz | Function::TwoChain
-    )
-}
 
 /// A function at its arguments.
 pub fn apply<E: Engine>(
@@ -85,11 +81,14 @@ fn counted_apply<E: Engine, L: Ledger>(
     let mut steps = Steps::<L>::start(blank);
     match function {
         Function::Ideal => ideal(scope, arguments),
-        Function::Std => std_list(scope, engine, seat, arguments, &mut steps),
+        Function::Std => std_list(scope, engine, seat, Mode::Left, arguments, &mut steps),
+        Function::TwoStd => std_list(scope, engine, seat, Mode::TwoSided, arguments, &mut steps),
         Function::Nf | Function::Reduce => normal_form(scope, seat, arguments, &mut steps),
         Function::Cofactors => cofactors(scope, engine, seat, arguments, &mut steps),
         Function::Summary => summary(scope, engine, seat, arguments, &mut steps),
-        _ => Err(Stop::Refused(Refusal::NotBuilt)),
+        Function::Eliminate => eliminate(scope, engine, arguments, &mut steps),
+        Function::Syz => syz(scope, engine, seat, arguments, &mut steps),
+        Function::TwoChain => twochain(scope, engine, seat, arguments, &mut steps),
     }
 }
 

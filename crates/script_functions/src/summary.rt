@@ -7,10 +7,11 @@ ghost use Rattle.script_model.specs.Functions.{how_many, is_new, is_zero, is_ski
 ghost use Rattle.script_values.specs.Gives.{Gives};
 ghost use Rattle.script_values.specs.Values.{IsValueOf};
 
-use crate::left_basis::left_basis;
+use crate::bases::basis_over;
+use crate::generators::joined;
 use gproduct::{Steps, TableSeat};
 use itoa::{Buffer, Integer};
-use run_records::{Engine, Entry, Finished, Journal};
+use run_records::{Engine, Entry, Finished, Journal, Mode};
 use script_model::values::Value;
 use script_values::{Scope, Stop};
 use sqlite_items::Items;
@@ -33,7 +34,9 @@ pub(crate) fn summary<E: Engine, L: Ledger>(
     ensures ready { E.can_run engine.new }
     ensures seat { seat.new.algebra ≡ seat.old.algebra }
 {
-    let found = left_basis(scope, engine, seat, arguments, steps)?;
+    let generators = joined(scope, arguments)?;
+    let generators = generators.as_slice();
+    let found = basis_over(scope, engine, seat, generators, Mode::Left, steps)?;
     let text = summary_text(scope.alloc, &found.run, &found.list)?;
     Ok(Value::Lines(Items::from_vec(text)))
 }

@@ -23,7 +23,7 @@ use Rattle.script_model.specs.Refusals.{Outcome, ◌>>=◌, in_turn}
 use Rattle.script_model.specs.Environment.{Scope, look_up}
 use Rattle.script_model.specs.Tokens.{number, is_minus}
 use Rattle.script_model.specs.Operations.{poly_of, polys_of, entry_of, constant, found_value, negative, sum, difference, times, divided, power, settled}
-use Rattle.script_model.specs.Functions.{is_built, apply}
+use Rattle.script_model.specs.Functions.{apply}
 
 -- the expressions of a list
 abbrev pub exprs_of : ExprList → List Expr
@@ -72,7 +72,7 @@ module _ (S : Scope) where
   -- ---- expressions, where `inner` has the values of those in parentheses
   module _ (inner : Expr → Outcome Value) where
     abbrev pub called : Function → List Expr → Outcome Value
-    called f es = if is_built f then all_values inner es >>= apply S.ring S.budget f else Err refused.NotBuilt
+    called f es = all_values inner es >>= apply S.ring S.budget f
 
     abbrev pub base_at : BaseLayer → Outcome Value
     base_at (Base-F.Int n) = integer n

@@ -52,8 +52,6 @@ pub enum Refusal {
     /// There are more than 16 variables, more than 4096 generators, an exponent above 4095, or a matrix
     /// with a side of 0 or above 16, or with fewer places than values.
     Limit,
-    /// A function that is not built yet.
-    NotBuilt,
     /// The number of the relation of variables i < j is zero. Variables count from 1.
     Coefficient(u8, u8),
     /// The polynomial of the relation of variables i < j has a degree above 2.
@@ -62,6 +60,9 @@ pub enum Refusal {
     Ordering(u8, u8),
     /// The triple of variables i < j < k leaves a rest that is not zero, with the text of this rest.
     NonDegeneracy(u8, u8, u8, Items<u8>),
+    /// Variables cannot be eliminated: the polynomial of the relation of variables i < j is not below
+    /// their product where the order first compares how often those occur. Of such pairs it is the first.
+    NoElimination(u8, u8),
     /// A run has as many entries as it may have, which is this number, and is not finished.
     BudgetSpent(u32),
     /// A run's basis would have more than 2048 elements.

@@ -16,7 +16,8 @@ pub fn status_of(refusal: &Refusal) -> u8
         Refusal::Coefficient(..)
         | Refusal::Profile(..)
         | Refusal::Ordering(..)
-        | Refusal::NonDegeneracy(..) => 3,
+        | Refusal::NonDegeneracy(..)
+        | Refusal::NoElimination(..) => 3,
         Refusal::BudgetSpent(_) | Refusal::BasisFull | Refusal::DegreeOver => 4,
         _ => 1,
     }
@@ -57,11 +58,11 @@ fn write_words(text: &mut Vec<u8>, refusal: &Refusal) -> Result<(), AllocError>
         Refusal::Limit => text.extend_from_slice(b"Limit"),
         Refusal::Characteristic(p) => write_numbered(text, b"Characteristic ", *p),
         Refusal::BadOrder => text.extend_from_slice(b"BadOrder"),
-        Refusal::NotBuilt => text.extend_from_slice(b"NotBuilt"),
         Refusal::Coefficient(i, j) => write_pair(text, b"Coefficient ", *i, *j),
         Refusal::Profile(i, j) => write_pair(text, b"Profile ", *i, *j),
         Refusal::Ordering(i, j) => write_pair(text, b"Ordering ", *i, *j),
         Refusal::NonDegeneracy(i, j, k, rest) => write_triple(text, *i, *j, *k, rest.as_slice()),
+        Refusal::NoElimination(i, j) => write_pair(text, b"NoElimination ", *i, *j),
         Refusal::BudgetSpent(budget) => write_numbered(text, b"BudgetSpent ", *budget),
         Refusal::BasisFull => text.extend_from_slice(b"BasisFull"),
         Refusal::DegreeOver => text.extend_from_slice(b"DegreeOver"),

@@ -29,11 +29,11 @@ const REFUSALS: &str = "\
 1|Characteristic 18446744073709551615
 1|BadOrder
 1|Limit
-1|NotBuilt
 3|Coefficient 1 2
 3|Profile 2 16
 3|Ordering 1 3
 3|NonDegeneracy 1 2 3 x*d-1
+3|NoElimination 1 2
 4|BudgetSpent 4294967295
 4|BasisFull
 4|DegreeOver
@@ -83,7 +83,6 @@ fn alone(word: &str) -> Result<Refusal, Fail> {
         "ZeroDivisor" => Refusal::ZeroDivisor,
         "BadOrder" => Refusal::BadOrder,
         "Limit" => Refusal::Limit,
-        "NotBuilt" => Refusal::NotBuilt,
         "BasisFull" => Refusal::BasisFull,
         "DegreeOver" => Refusal::DegreeOver,
         _ => return Err("no refusal is this word".into()),
@@ -104,6 +103,7 @@ fn of_pair(word: &str, i: u8, j: u8) -> Result<Refusal, Fail> {
         "Coefficient" => Ok(Refusal::Coefficient(i, j)),
         "Profile" => Ok(Refusal::Profile(i, j)),
         "Ordering" => Ok(Refusal::Ordering(i, j)),
+        "NoElimination" => Ok(Refusal::NoElimination(i, j)),
         _ => Err("no refusal of a pair has this word".into()),
     }
 }

@@ -1,6 +1,6 @@
 use Rattle.std.proofs.Common.{◌≡◌, ◌++◌, ◌+◌, map, drop, string_bytes}
 use Rattle.monomials.specs.Polynomials.{Each}
-use Rattle.plural_text.specs.CertificateTexts.{lines_text}
+use Rattle.word_model.specs.CertificateTexts.{lines_text}
 use Rattle.plural_text.specs.Writable.{IsLineOf}
 use Rattle.plural_text.proofs.certificates.write_lines.Given as goal
 

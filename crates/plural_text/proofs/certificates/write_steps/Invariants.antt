@@ -1,6 +1,6 @@
 use Rattle.std.proofs.Common.{◌≡◌, ◌++◌, map, drop, string_bytes}
 use Rattle.monomials.specs.Polynomials.{Each}
-use Rattle.plural_text.specs.CertificateTexts.{steps_text}
+use Rattle.word_model.specs.CertificateTexts.{steps_text}
 use Rattle.plural_text.specs.Writable.{IsTermOf}
 use Rattle.plural_text.proofs.certificates.write_steps.Given as goal
 

@@ -1,6 +1,6 @@
 use Rattle.std.proofs.Common.{arith}
 use Rattle.word_model.proofs.ShortLists.{short_list}
-use Rattle.script_functions.proofs.left_basis.finished_list.Goals as goal
+use Rattle.script_functions.proofs.bases.finished_list.Goals as goal
 
 pub returns-in-Ok-clause-short : goal.returns-in-Ok-clause-short
 returns-in-Ok-clause-short g c =

@@ -2,8 +2,9 @@
 
 ghost use Rattle.std.specs.Prelude.{◌≡◌, ◌≤◌, ◌++◌, ◌∷◌, [], IfOk, OnOk, length};
 ghost use Rattle.monomials.specs.Polynomials.{Each, IsPolynomial};
+ghost use Rattle.word_model.specs.Machine.{machine};
 
-use crate::{Crew, MeetGate};
+use crate::{By, Crew, MeetGate, NoGate, crew_basis};
 use algebra::{Algebra, Relations};
 use commit_core::OneWorker;
 use gpoly::{GPoly, Term};
@@ -141,5 +142,39 @@ fn two_hands_meet(rt: HostRuntime) -> Result<(), Fail> {
     let alone = OneWorker::new().basis(alloc, &alg, &gens, Mode::Left, 100_000)?;
     assert_eq!(rt; alone.entries.len(), 14);
     assert!(rt; same_journals(&made, &alone));
+    Ok(())
+}
+
+#[test]
+fn crews_of_any_size_make_one_journal(rt: HostRuntime) -> Result<(), Fail> {
+    let alloc = rt.alloc();
+    let alg = heisenberg(alloc)?;
+    let gens = polys(alloc, alg.field(), alg.order(), GENERATORS)?;
+    let alone = OneWorker::new().basis(alloc, &alg, &gens, Mode::Left, 100_000)?;
+    for workers in [1, 3, 64] {
+        let made = Crew::new(&rt, workers, &NoGate).basis(alloc, &alg, &gens, Mode::Left, 100_000)?;
+        assert!(rt; same_journals(&made, &alone));
+    }
+    Ok(())
+}
+
+// An engine of a closure, with a gate that a caller could have as a parameter.
+#[test]
+fn a_closure_is_an_engine(rt: HostRuntime) -> Result<(), Fail> {
+    let alloc = rt.alloc();
+    let alg = heisenberg(alloc)?;
+    let gens = polys(alloc, alg.field(), alg.order(), GENERATORS)?;
+    let gate = NoGate;
+    let mut engine = By {
+        run: |alloc: Global, alg: &Algebra, gens: &[GPoly], mode: Mode, budget: u32| -> Result<
+            Journal,
+            AllocError,
+        >
+            requires { Each (IsPolynomial alg.now.p alg.now.order) gens.now × (length gens.now ≤ 4096) × (1 ≤ budget) }
+            ensures { IfOk result (λ j. j ≡ machine alg.now gens.now mode budget) }
+        { crew_basis(&rt, alloc, 2, &gate, alg, gens, mode, budget) },
+    };
+    let made = engine.basis(alloc, &alg, &gens, Mode::TwoSided, 3)?;
+    assert_eq!(rt; made.entries.len(), 3);
     Ok(())
 }

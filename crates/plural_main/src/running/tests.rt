@@ -25,13 +25,13 @@ fn run_over<R: Threads + Wait + Sync, G: Gate + Sync>(
     faults: Faults,
     gate: &G,
 ) -> Result<(u8, String), Fail> {
-    let words: Vec<String> = words
-        .split_whitespace()
-        .map(|word| String::from_str(alloc, word))
-        .collect::<Result<_, _>>(alloc)?;
+    let mut told = Vec::new(alloc);
+    for word in words.split_whitespace() {
+        told.push(String::from_str(alloc, word)?)?;
+    }
     let mut source = MemSource::new(alloc, script.as_bytes(), 5, &[faults.read])?;
     let mut sink = MemSink::new(alloc, 4096, 2, &[faults.write])?;
-    let status = run(rt, alloc, &words, &mut source, &mut sink, gate);
+    let status = run(rt, alloc, &told, &mut source, &mut sink, gate);
     Ok((status, String::from_utf8(sink.bytes().to_vec(alloc)?)?))
 }
 

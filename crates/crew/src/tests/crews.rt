@@ -4,10 +4,11 @@ ghost use Rattle.std.specs.Prelude.{◌≡◌, ◌≤◌, ◌++◌, ◌∷◌, [
 ghost use Rattle.monomials.specs.Polynomials.{Each, IsPolynomial};
 ghost use Rattle.word_model.specs.Machine.{machine};
 
-use crate::{By, Crew, MeetGate, NoGate, crew_basis};
+use crate::{By, Crew, Desk, MeetGate, NoGate, Shelf, crew_basis};
 use algebra::{Algebra, Relations};
-use commit_core::OneWorker;
+use commit_core::{Lead, OneWorker};
 use gpoly::{GPoly, Term};
+use gproduct::Table;
 use monomials::{Block, Expo, Order};
 use prime_field::Field;
 use run_records::{Engine, Entry, Journal, Mode};
@@ -176,5 +177,22 @@ fn a_closure_is_an_engine(rt: HostRuntime) -> Result<(), Fail> {
     };
     let made = engine.basis(alloc, &alg, &gens, Mode::TwoSided, 3)?;
     assert_eq!(rt; made.entries.len(), 3);
+    Ok(())
+}
+
+// A leader alone, twice at one desk: the second time the board is closed, and each worker goes home.
+#[test]
+fn the_board_is_closed_when_the_leader_has_answered(rt: HostRuntime) -> Result<(), Fail> {
+    let alloc = rt.alloc();
+    let alg = heisenberg(alloc)?;
+    let gens = polys(alloc, alg.field(), alg.order(), GENERATORS)?;
+    let table = Table::new(alloc, &alg)?;
+    let shelf = Shelf::new(alloc)?;
+    let desk = Desk::new(alloc, &alg, &table, &shelf, &gens, &NoGate, 2)?;
+    let first = Lead::new(alloc, &alg, &gens, Mode::Left, 100_000)?;
+    let made = desk.lead(&rt, alloc, first)?;
+    desk.work(&rt, alloc, 1);
+    let second = Lead::new(alloc, &alg, &gens, Mode::Left, 100_000)?;
+    assert!(rt; same_journals(&desk.lead(&rt, alloc, second)?, &made));
     Ok(())
 }

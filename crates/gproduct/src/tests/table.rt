@@ -164,7 +164,7 @@ fn products_of_powers(rt: HostRuntime) -> Result<(), Fail> {
 fn shared<T: Sync + Send>() {}
 
 // Also a table and its seats, for any time that they live.
-fn tables_are_shared<'t, 'r>() {
+fn tables_are_shared<'t, 'r: 't>() {
     shared::<Table<'r>>();
     shared::<TableSeat<'t, 'r>>();
 }

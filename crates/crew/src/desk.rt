@@ -222,11 +222,13 @@ impl<'s, 'r, G: Gate> Desk<'s, 'r, G> {
         }
     }
 
-    // Offers the lead's next jobs that aren't on the board, four for each worker.
+    // Offers the lead's next jobs that aren't on the board, four for each worker, and wakes a worker
+    // for each: to wake all for one job would have them meet at the lock.
     fn offer<R: Wait>(&self, rt: &R, alloc: Global, lead: &Lead) -> Result<(), AllocError> {
         let next = lead.ahead(alloc, 4 * usize::from(self.workers))?;
-        if locked::offer_new(alloc, &mut *self.board.lock(rt), &next)? {
-            self.moved.notify_all();
+        let offered = locked::offer_new(alloc, &mut *self.board.lock(rt), &next)?;
+        for _ in 0..offered {
+            self.moved.notify_one();
         }
         Ok(())
     }

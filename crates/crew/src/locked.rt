@@ -9,17 +9,17 @@ use run_records::Job;
 use std::alloc::{AllocError, Global};
 
 /// Event `Offer`, for each of these jobs that isn't on the board, in order; none where the board is
-/// closed. Answers whether there was one.
+/// closed. Answers how many there were.
 pub(crate) fn offer_new<P: Drop>(
     alloc: Global,
     board: &mut Board<P>,
     jobs: &[Job],
-) -> Result<bool, AllocError> {
-    let mut fresh = false;
+) -> Result<usize, AllocError> {
+    let mut fresh = 0usize;
     for job in jobs {
         if !board.closed() && board.standing(job).is_none() {
             board.offer(alloc, &[*job])?;
-            fresh = true;
+            fresh = fresh.saturating_add(1);
         }
     }
     Ok(fresh)

@@ -131,7 +131,13 @@ fn answer(
     };
     let table = Table::new(alloc, ring.algebra())?;
     let mut seat = table.seat(alloc)?;
-    match apply(&scope, &mut OneWorker::new(), &mut seat, function, arguments) {
+    match apply(
+        &scope,
+        &mut OneWorker::new(),
+        &mut seat,
+        function,
+        arguments,
+    ) {
         Ok(value) => {
             let text = printed(alloc, &environment, ring, b"_", &value)?;
             Ok(Vec::from_slice(alloc, text.as_slice())?)
@@ -238,7 +244,7 @@ fn runs_of_one_entry(rt: HostRuntime) -> Result<(), Fail> {
 // In the algebra with d x = x d + d^2: where d counts first, d^2 is above x d.
 const PLANE: &str = "\
 eliminate|<x,d d|? line 1: NoElimination 1 2
-eliminate|<x,d x*d|? line 1: NoElimination 1 2
+eliminate|<x,d x*d|_[1]=0
 eliminate|<x,d 3|? line 1: Kind
 eliminate|x x|_[1]=0
 twostd|d|_[1]=d";

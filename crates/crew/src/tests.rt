@@ -1,3 +1,6 @@
-//! Worked tests.
+//! Worked tests, on one thread and on more.
 
+mod algebras;
 mod crews;
+mod meeting;
+mod sealing;

@@ -10,6 +10,7 @@ ghost use Rattle.commit_core.specs.Specs.{IsGood};
 
 use crate::gates::{Gate, Point};
 use crate::locked;
+use crate::prospects::Prospects;
 use crate::sealed::Sealed;
 use crate::shelf::{Shelf, ShelfView};
 use algebra::Algebra;
@@ -207,9 +208,11 @@ impl<'s, 'r, G: Gate> Desk<'s, 'r, G> {
         let mut seat = self.table.seat(alloc)?;
         let mut view = self.shelf.view(alloc)?;
         let mut steps: Steps<L> = Steps::start(blank);
+        let mut prospects = Prospects::new(alloc);
         let mut lead = lead;
         loop {
-            self.offer(rt, alloc, &lead)?;
+            prospects.note(&lead)?;
+            self.offer(rt, alloc, &lead, &mut prospects)?;
             view.grow(self.algebra);
             self.help(rt, alloc, &mut seat, &view, &lead, &mut steps);
             let spec = self.taken(rt, &lead);
@@ -222,11 +225,19 @@ impl<'s, 'r, G: Gate> Desk<'s, 'r, G> {
         }
     }
 
-    // Offers the lead's next jobs that aren't on the board, four for each worker, and wakes a worker
+    // Offers the lead's next jobs that aren't on the board, of the first four for each worker those that
+    // the chain rule won't skip, and wakes a worker
     // for each: to wake all for one job would have them meet at the lock.
-    fn offer<R: Wait>(&self, rt: &R, alloc: Global, lead: &Lead) -> Result<(), AllocError> {
+    fn offer<R: Wait>(
+        &self,
+        rt: &R,
+        alloc: Global,
+        lead: &Lead,
+        prospects: &mut Prospects,
+    ) -> Result<(), AllocError> {
         let next = lead.ahead(alloc, 4 * usize::from(self.workers))?;
-        let offered = locked::offer_new(alloc, &mut *self.board.lock(rt), &next)?;
+        let worthy = prospects.worthy(alloc, &next)?;
+        let offered = locked::offer_new(alloc, &mut *self.board.lock(rt), &worthy)?;
         for _ in 0..offered {
             self.moved.notify_one();
         }

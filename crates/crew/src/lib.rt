@@ -12,6 +12,7 @@ mod desk;
 mod engines;
 mod gates;
 mod locked;
+mod prospects;
 mod sealed;
 mod shelf;
 #[cfg(test)]

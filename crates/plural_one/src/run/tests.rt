@@ -3,7 +3,9 @@
 ghost use Rattle.std.specs.Prelude.{◌≤◌};
 
 use super::*;
+use case_maker::script_of;
 use plural_io::{MemSink, MemSource};
+use std::alloc::AllocError;
 use std::test::Fail;
 
 // The status and the text of a run whose reads and writes move at most `per_call` bytes, and fail at the given calls.

@@ -3,6 +3,7 @@
 //! definition's value.
 
 ghost use Rattle.std.specs.Prelude.{◌≡◌, ◌++◌, ◌∷◌, [], IfOk, OnOk};
+ghost use Rattle.std.specs.Result.{OnErr};
 
 use monomials::Expo;
 use std::alloc::{AllocError, Global};
@@ -86,9 +87,10 @@ impl Trace {
         }
     }
 
-    /// Adds a step at the end.
+    /// Adds a step at the end. Where memory is wanting, the trace is as before.
     pub fn push(&mut self, step: TraceStep) -> Result<(), AllocError>
-        ensures { OnOk result (self.new ≡ self.old ++ step ∷ []) }
+        ensures value { OnOk result (self.new ≡ self.old ++ step ∷ []) }
+        ensures refused { OnErr result (self.new ≡ self.old) }
     {
         self.steps.push(step)?;
         Ok(())

@@ -144,7 +144,7 @@ loop-work-preserved g c =
     let so_far = c.loop-work.invariant in
     let one : c.next_step.new.steps ≡ c.loop-work.steps + 1 = c.in_ok-step.ensures.counted ∙ ap (λ n. c.loop-work.steps + products_of n) c.in-Step.is in
     let longer : length c.push.new.self ≡ length c.loop-work.trace + 1 =
-    ap length c.in_ok-push-in-Step.ensures ∙ length-append c.loop-work.trace (c.in-Step.step ∷ []) in
+    ap length c.in_ok-push-in-Step.ensures.value ∙ length-append c.loop-work.trace (c.in-Step.step ∷ []) in
     record {
       algebra = c.in_ok-step.ensures.algebra ∙ so_far.algebra;
       kept = λ place known. c.in_ok-step.ensures.kept place (so_far.kept place known);
@@ -159,7 +159,7 @@ loop-work-preserved g c =
       value =
           one_more (reduction_by aim A G) (after_steps c.args.trace (reduction_by aim A G (whole_of A.p A.order c.in_ok-work.work))) c.loop-work.trace whole
           (next_step A G whole (target_by aim G whole)) so_far.value (reduction-next A ok G c.requires.sorted aim whole so_far.work.whole) c.in-Step.step left (stepped g at)
-          ∙ ap (λ steps. after_steps steps (reduction_by aim A G left)) (sym c.in_ok-push-in-Step.ensures);
+          ∙ ap (λ steps. after_steps steps (reduction_by aim A G left)) (sym c.in_ok-push-in-Step.ensures.value);
       counted = omega (arith, one, longer, so_far.counted);
     }
 

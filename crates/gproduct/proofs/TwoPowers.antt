@@ -1,9 +1,9 @@
 -- The monomial of two powers, by its exponents and by its word.
-use Rattle.std.proofs.Common.{◌≡◌, ◌≢◌, ℕ, zero, suc, ◌+◌, ◌-◌, ◌<◌, ◌≤◌, ◌⊎◌, inl, inr, List, [], ◌∷◌, ◌++◌, length, take, set, get_or, replicate, refl, sym, ap, ◌∙◌, arith, get_or-set_same, get_or-set_other, length-append}
+use Rattle.std.proofs.Common.{◌≡◌, ◌≢◌, ℕ, zero, suc, ◌+◌, ◌-◌, ◌<◌, ◌≤◌, ◌⊎◌, inl, inr, List, ◌++◌, length, take, set, get_or, replicate, refl, sym, ap, ◌∙◌, arith, get_or-set_same, get_or-set_other, length-append}
 use Rattle.std.proofs.Math.ListN.{length-set, length-replicate}
 use Rattle.monomials.specs.Monomials.{degree}
 use Rattle.monomials.proofs.Keys.{Each-append}
-use Rattle.word_model.specs.Words.{Word, IsWord, count_of, counts_from, monomial_of, sorted_word}
+use Rattle.word_model.specs.Words.{Word, IsWord, count_of, monomial_of, sorted_word}
 use Rattle.word_model.proofs.Letters.{count_of-append, count_of-replicate, count_of-other, degree-monomial_of}
 use Rattle.algebra.proofs.Counting.{counts_all}
 use Rattle.word_model.proofs.Sorted.{sorted_word-monomial_of}

@@ -10,3 +10,4 @@ pub mod TwoPowers
 pub mod LetterValue
 pub mod ClosedTerms
 pub mod Known
+mod KeptFactors

@@ -2,3 +2,4 @@ pub mod Swaps
 pub mod Factors
 pub mod Parts
 pub mod Passing
+pub mod Kept

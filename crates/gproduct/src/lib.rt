@@ -5,6 +5,7 @@
 mod exchange;
 mod first;
 mod front;
+mod kept;
 mod kinds;
 mod multiplying;
 mod pairs;
@@ -23,7 +24,7 @@ mod table;
 mod tests;
 
 pub use place::value_of;
-pub use products::{right_times, term_times, times};
+pub use products::{kept_times, right_times, term_times, times};
 pub use seat::{Learned, TableSeat};
 pub use steps::Steps;
 pub use table::Table;

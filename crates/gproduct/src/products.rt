@@ -234,6 +234,68 @@ pub fn term_times<L: Ledger>(
     Ok(term_times_within(alloc, seat, &mut pending, coef, mono, f)?)
 }
 
+// The product of a monomial with `f`: one that the seat kept under the number, or a new one, which it
+// may keep.
+fn kept_times_within(
+    alloc: Global,
+    seat: &mut TableSeat,
+    number: u32,
+    mono: &Expo,
+    f: &GPoly,
+) -> Result<GPoly, AllocError>
+    requires nonzero { f.now ≢ [] }
+    requires sorted { IsPolynomial seat.old.algebra.p seat.old.algebra.order f.now }
+    requires vars { length mono.now ≡ seat.old.algebra.order.vars }
+    requires within { degree mono.now + poly_degree f.now ≤ 4095 }
+    ensures value { IfOk result (λ r. r ≡ product seat.old.algebra ((1, mono.now) ∷ []) f.now) }
+    ensures sorted { IfOk result (λ r. IsPolynomial seat.old.algebra.p seat.old.algebra.order r) }
+    ensures algebra { seat.new.algebra ≡ seat.old.algebra }
+    ensures kept { Keeps seat.old seat.new }
+{
+    if let Some(product) = seat.kept(number, mono, f) {
+        return product.copy(alloc);
+    }
+    let _n = seat.algebra().n();
+    let mut pending = Pending::new(alloc);
+    let product = term_times_within(alloc, seat, &mut pending, 1, mono, f)?;
+    seat.keep(alloc, number, mono, f, &product);
+    Ok(product)
+}
+
+/// The product of a monomial with `f`, which the seat may keep under the number and find again. The
+/// number is a hint: where another polynomial comes with it, the products that are kept are dropped.
+/// `DegreeOver` comes exactly where `f` is not zero and the degrees add up to more than 4095. A product
+/// that was kept is counted as a new one.
+pub fn kept_times<L: Ledger>(
+    alloc: Global,
+    seat: &mut TableSeat,
+    number: u32,
+    mono: &Expo,
+    f: &GPoly,
+    steps: &mut Steps<L>,
+) -> Result<GPoly, ProductFault>
+    requires sorted { IsPolynomial seat.old.algebra.p seat.old.algebra.order f.now }
+    requires vars { length mono.now ≡ seat.old.algebra.order.vars }
+    ensures value { IfOk result (λ r. r ≡ product seat.old.algebra ((1, mono.now) ∷ []) f.now) }
+    ensures sorted { IfOk result (λ r. IsPolynomial seat.old.algebra.p seat.old.algebra.order r) }
+    ensures within { OnOk result (in_reach ((1, mono.now) ∷ []) f.now ≡ true) }
+    ensures over { result ≡ Err ProductFault.DegreeOver → in_reach ((1, mono.now) ∷ []) f.now ≡ false }
+    ensures reach { AnswersWithin (in_reach ((1, mono.now) ∷ []) f.now) result }
+    ensures algebra { seat.new.algebra ≡ seat.old.algebra }
+    ensures kept { Keeps seat.old seat.new }
+    ensures counted { Counts 1 result steps.old steps.new }
+{
+    if f.terms().len() < 2 || mono.degree() == 0 {
+        let _n = seat.algebra().n();
+        return term_times(alloc, seat, 1, mono, f, steps);
+    }
+    if f.degree() + mono.degree() > DEGREE_LIMIT {
+        return Err(ProductFault::DegreeOver);
+    }
+    steps.tick();
+    Ok(kept_times_within(alloc, seat, number, mono, f)?)
+}
+
 /// The product of `f` with the variable of number `v`. `DegreeOver` comes exactly where `f` is not
 /// zero and has a degree of 4095.
 pub fn right_times<L: Ledger>(

@@ -1,6 +1,8 @@
 //! Seats at the table: what a thread saw in the cells.
 
-ghost use Rattle.std.specs.Prelude.{◌≡◌, ◌<◌, ◌≤◌, ℕ, IsTrue, Some, None, Ok, IfOk, IfSome, MatchOption, length, slice_index_or, slice_set};
+ghost use Rattle.std.specs.Prelude.{◌≡◌, ◌≢◌, ◌<◌, ◌≤◌, ◌∷◌, [], ℕ, IsTrue, Some, None, Ok, IfOk, IfSome, MatchOption, length, slice_index_or, slice_set};
+ghost use Rattle.monomials.specs.Polynomials.{IsPolynomial};
+ghost use Rattle.word_model.specs.Products.{product};
 ghost use Rattle.closed_forms.specs.Kinds.{HasKind};
 ghost use Rattle.gproduct.specs.Inside.Passing.{Passes};
 ghost use Rattle.gproduct.specs.Places.{IsPlace, place_value, cell_count};
@@ -9,6 +11,7 @@ ghost use Rattle.word_model.specs.declared.events.Place.{Place};
 ghost use Rattle.gproduct.specs.declared.seat.Learned.TheVariants.{Shared};
 
 use crate::first::first_value;
+use crate::kept::KeptProducts;
 use crate::place::{cell, same_place};
 use crate::table::{Filled, Table};
 use algebra::Algebra;
@@ -34,17 +37,20 @@ struct Slot<'t, 'r> {
     cell: Option<&'t Filled<'r>>,
 }
 
-/// A seat at a table. It knows the values of the places that it learned, and keeps them.
+/// A seat at a table. It knows the values of the places that it learned, and keeps them; no clause
+/// tells which products it keeps.
 #[derive(Drop)]
 pub struct TableSeat<'t, 'r> {
     table: &'t Table<'r>,
     seen: Vec<Slot<'t, 'r>>,
+    kept: KeptProducts,
 }
 
 impl<'t, 'r> Model for TableSeat<'t, 'r> {
     ghost use Rattle.std.specs.Prelude.{◌≡◌, IfSome, map, All};
     ghost use Rattle.std.specs.Option.{option_map};
     ghost use Rattle.gproduct.specs.Seats.{Seat};
+    ghost use Rattle.gproduct.specs.Inside.Kept.{AreKept};
 
     ghost Value = { Seat };
 
@@ -53,7 +59,8 @@ impl<'t, 'r> Model for TableSeat<'t, 'r> {
       seen = map (λ o. option_map (λ f. f.now.place) o.cell) s.seen.items;
     } };
 
-    ghost invariant = { λ s. All (λ o. IfSome o.cell (λ f. f.now.algebra.now ≡ s.table.now)) s.seen.items };
+    ghost invariant = { λ s. All (λ o. IfSome o.cell (λ f. f.now.algebra.now ≡ s.table.now)) s.seen.items
+        × AreKept s.table.now s.kept.factors.items s.kept.slots.items };
 }
 
 impl<'r> Table<'r> {
@@ -67,7 +74,11 @@ impl<'r> Table<'r> {
         for _slot in 0..self.count() {
             seen.push(Slot { cell: None })?;
         }
-        Ok(TableSeat { table: self, seen })
+        Ok(TableSeat {
+            table: self,
+            seen,
+            kept: KeptProducts::new(alloc),
+        })
     }
 }
 
@@ -122,6 +133,25 @@ impl<'t, 'r> TableSeat<'t, 'r> {
             return Ok(Learned::Shared);
         }
         Ok(Learned::Own(first_value(alloc, self, place)?))
+    }
+
+    // The product of a monomial with `f`, where it is kept under this number. Takes no memory.
+    pub(crate) fn kept(&self, number: u32, mono: &Expo, f: &GPoly) -> Option<&GPoly>
+        ensures sorted { IfSome result (λ r. IsPolynomial self.now.algebra.p self.now.algebra.order r.now) }
+        ensures value { IfSome result (λ r. r.now ≡ product self.now.algebra ((1, mono.now) ∷ []) f.now) }
+    {
+        self.kept.find(number, mono, f)
+    }
+
+    // Keeps the product of a monomial with `f` under this number, unless it is too long or memory is
+    // wanting.
+    pub(crate) fn keep(&mut self, alloc: Global, number: u32, mono: &Expo, f: &GPoly, value: &GPoly)
+        requires some { f.now ≢ [] }
+        requires sorted { IsPolynomial self.old.algebra.p self.old.algebra.order value.now }
+        requires value { value.now ≡ product self.old.algebra ((1, mono.now) ∷ []) f.now }
+        ensures { self.new ≡ self.old }
+    {
+        let _kept = self.kept.keep(alloc, number, mono, f, value);
     }
 
     // The kind of the relation of x_i and x_j, where it has one. Takes no memory.

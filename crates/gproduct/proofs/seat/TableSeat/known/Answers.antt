@@ -17,7 +17,7 @@ returns-then-same_place c =
     let there : c.in_ok-slot.slot.now ≡ slice_index_or slots k c.in_ok-slot.slot.now = rw (← c.deref.ensures.value) (c.in_ok-slot.ensures.lookup.3.1 c.in_ok-slot.slot.now) in
     let cell : (slice_index_or slots k c.in_ok-slot.slot.now).cell ≡ Some found = ap (λ (o : Slot). o.cell) (sym there) ∙ c.in_ok-found.was in
     let algebra : found.now.algebra.now ≡ c.self.inside.table.now =
-    subst (λ o. IfSome o (λ f. f.now.algebra.now ≡ c.self.inside.table.now)) cell (c.self.invariant k c.in_ok-slot.slot.now inside) in
+    subst (λ o. IfSome o (λ f. f.now.algebra.now ≡ c.self.inside.table.now)) cell (c.self.invariant.0 k c.in_ok-slot.slot.now inside) in
     let at : k ≡ cell_of c.self.inside.table.now.order.vars c.args.place =
     c.cell.ensures ∙ ap (λ n. cell_of n c.args.place) (c.n-n.ensures.value ∙ ap (λ (A : Algebra). A.order.vars) (c.algebra.ensures ∙ ap (λ (s : Seat). s.algebra) (sym c.self.view_is))) in
     let seen = λ (o : Slot). option_map (λ f. f.now.place) o.cell in

@@ -6,9 +6,12 @@ use Rattle.gproduct.proofs.Known.{none_known}
 use Rattle.gproduct.proofs.table.Table.seat.Goals as goal
 
 pub invariant_of-result : goal.invariant_of-result
-invariant_of-result c k d inside =
-    let free : slice_index_or c.loop-slot.seen.items k d ≡ record { cell = None } = get_or_default c.loop-slot.seen.items k d (record { cell = None }) inside ∙ c.loop-slot.invariant.free k in
-    rw free tt
+invariant_of-result c = (
+  λ k d inside.
+      let free : slice_index_or c.loop-slot.seen.items k d ≡ record { cell = None } = get_or_default c.loop-slot.seen.items k d (record { cell = None }) inside ∙ c.loop-slot.invariant.free k in
+      rw free tt,
+  c.new.ensures.kept c.args.self.now,
+)
 
 pub returns : goal.returns
 returns c = record {

@@ -8,16 +8,17 @@ ghost use Rattle.gproduct.specs.Counting.{Counts};
 
 use algebra::ProductFault;
 use gpoly::GPoly;
-use gproduct::{Steps, TableSeat, term_times};
+use gproduct::{Steps, TableSeat, kept_times};
 use monomials::Expo;
 use std::alloc::Global;
 use std::sync::ledger::Ledger;
 
-// The product of a monomial and a nonzero polynomial. `DegreeOver` comes exactly where their degrees
-// add up to more than 4095.
+// The product of a monomial and a nonzero polynomial, the element of this number. `DegreeOver` comes
+// exactly where their degrees add up to more than 4095.
 pub(crate) fn multiple<L: Ledger>(
     alloc: Global,
     seat: &mut TableSeat,
+    number: u32,
     mono: &Expo,
     g: &GPoly,
     steps: &mut Steps<L>,
@@ -35,5 +36,5 @@ pub(crate) fn multiple<L: Ledger>(
     ensures counted { Counts 1 result steps.old steps.new }
 {
     let _n = seat.algebra().n();
-    term_times(alloc, seat, 1, mono, g, steps)
+    kept_times(alloc, seat, number, mono, g, steps)
 }

@@ -40,16 +40,19 @@ pub fn start_of<B: Elements, L: Ledger>(
 {
     match *job {
         Job::Seed { s } => Ok(gens[s as usize - 1].copy(alloc)?),
-        Job::Pair { i, j } => s_polynomial(alloc, seat, basis.at(i), basis.at(j), steps),
+        Job::Pair { i, j } => s_polynomial(alloc, seat, i, basis.at(i), j, basis.at(j), steps),
         Job::Right { i, v } => right_times(alloc, seat, basis.at(i), v, steps),
     }
 }
 
-// The S-polynomial. `DegreeOver` comes exactly where a product of it has a degree above 4095.
+// The S-polynomial of the elements of these numbers. `DegreeOver` comes exactly where a product of it
+// has a degree above 4095.
 fn s_polynomial<L: Ledger>(
     alloc: Global,
     seat: &mut TableSeat,
+    i: u32,
     f: &GPoly,
+    j: u32,
     g: &GPoly,
     steps: &mut Steps<L>,
 ) -> Result<GPoly, ProductFault>
@@ -70,8 +73,8 @@ fn s_polynomial<L: Ledger>(
     let field = alg.field();
     let (f_lead, g_lead) = (f.lead(), g.lead());
     let reached = f_lead.mono.lcm(&g_lead.mono);
-    let first = multiple(alloc, seat, &reached.minus(&f_lead.mono), f, steps)?;
-    let second = multiple(alloc, seat, &reached.minus(&g_lead.mono), g, steps)?;
+    let first = multiple(alloc, seat, i, &reached.minus(&f_lead.mono), f, steps)?;
+    let second = multiple(alloc, seat, j, &reached.minus(&g_lead.mono), g, steps)?;
     let k = field.div(first.lead().coef, second.lead().coef);
     Ok(first.add_multiple(alloc, field, alg.order(), field.neg(k), &second)?)
 }

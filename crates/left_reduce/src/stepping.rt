@@ -117,7 +117,7 @@ fn next_step<B: Elements, L: Ledger>(
     let field = alg.field();
     let element = basis.at(target.index);
     let mono = target.term.mono.minus(&element.lead().mono);
-    let product = match multiple(alloc, seat, &mono, element, steps) {
+    let product = match multiple(alloc, seat, target.index, &mono, element, steps) {
         Ok(product) => product,
         Err(ProductFault::DegreeOver) => return Ok(Next::Over),
         Err(ProductFault::Memory) => return Err(AllocError),

@@ -9,5 +9,5 @@ pub returns-clause-nonzero : goal.returns-clause-nonzero
 returns-clause-nonzero g c =
     let A : Algebra = c.args.seat.now.algebra in
     let ok : IsGAlgebra A = subst IsGAlgebra c.algebra.ensures c.n-n.ensures.accepted in
-    IfOk-weaker c.term_times.result _ (λ r. r ≢ [])
-    (λ r is. multiple-nonzero A ok c.args.mono.now c.args.g.now r c.requires.vars c.requires.sorted c.requires.nonzero is) c.term_times.ensures.value
+    IfOk-weaker c.kept_times.result _ (λ r. r ≢ [])
+    (λ r is. multiple-nonzero A ok c.args.mono.now c.args.g.now r c.requires.vars c.requires.sorted c.requires.nonzero is) c.kept_times.ensures.value

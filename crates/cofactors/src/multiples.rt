@@ -90,7 +90,7 @@ pub(crate) fn subtract<L: Ledger>(
     requires others { IsRow seat.old.algebra (length entries.old) others.now }
     ensures value { OnOk result (entries.new
         ≡ row_sub seat.old.algebra entries.old (row_multiple seat.old.algebra term.now.coef term.now.mono others.now)) }
-    ensures sorted { OnOk result (Each (IsPolynomial seat.old.algebra.p seat.old.algebra.order) entries.new) }
+    ensures sorted { Each (IsPolynomial seat.old.algebra.p seat.old.algebra.order) entries.new }
     ensures within { OnOk result (multiple_reaches term.now.mono others.now ≡ true) }
     ensures over { result ≡ Err ProductFault.DegreeOver → multiple_reaches term.now.mono others.now ≡ false }
     ensures algebra { seat.new.algebra ≡ seat.old.algebra }
@@ -123,7 +123,7 @@ fn subtract_one<L: Ledger>(
     requires other { IsPolynomial seat.old.algebra.p seat.old.algebra.order other.now }
     ensures value { OnOk result (entry.new ≡ poly_sub (order_cmp seat.old.algebra.order.rows) seat.old.algebra.p
         entry.old (multiple seat.old.algebra term.now.coef term.now.mono other.now)) }
-    ensures sorted { OnOk result (IsPolynomial seat.old.algebra.p seat.old.algebra.order entry.new) }
+    ensures sorted { IsPolynomial seat.old.algebra.p seat.old.algebra.order entry.new }
     ensures within { OnOk result (in_reach ((1, term.now.mono) ∷ []) other.now ≡ true) }
     ensures over { result ≡ Err ProductFault.DegreeOver → in_reach ((1, term.now.mono) ∷ []) other.now ≡ false }
     ensures algebra { seat.new.algebra ≡ seat.old.algebra }
@@ -138,7 +138,8 @@ fn subtract_one<L: Ledger>(
     Ok(())
 }
 
-/// Subtracts the multiples of rows that the steps of a trace name.
+/// Subtracts the multiples of rows that the steps of a trace name. Where it refuses, some entries may be subtracted from
+/// already, and each is a polynomial still.
 pub fn subtract_steps<L: Ledger>(
     alloc: Global,
     seat: &mut TableSeat,
@@ -151,7 +152,7 @@ pub fn subtract_steps<L: Ledger>(
     requires rows { Each (IsRow seat.old.algebra (length entries.old)) rows.now }
     requires steps { Each (IsStep seat.old.algebra (length rows.now)) trace.now }
     ensures value { OnOk result (entries.new ≡ less_steps seat.old.algebra rows.now entries.old trace.now) }
-    ensures sorted { OnOk result (Each (IsPolynomial seat.old.algebra.p seat.old.algebra.order) entries.new) }
+    ensures sorted { Each (IsPolynomial seat.old.algebra.p seat.old.algebra.order) entries.new }
     ensures within { OnOk result (steps_reach rows.now trace.now ≡ true) }
     ensures over { result ≡ Err ProductFault.DegreeOver → steps_reach rows.now trace.now ≡ false }
     ensures algebra { seat.new.algebra ≡ seat.old.algebra }

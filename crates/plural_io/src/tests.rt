@@ -83,10 +83,24 @@ fn writes_all_or_a_prefix(rt: HostRuntime) -> Result<(), Fail> {
         ),
         (
             b"hello".as_slice(),
+            5,
+            [3],
+            Err(WriteFailed),
+            b"hell".as_slice(),
+        ),
+        (
+            b"hello".as_slice(),
             3,
             [9],
             Err(WriteFailed),
             b"hel".as_slice(),
+        ),
+        (
+            b"hello".as_slice(),
+            0,
+            [9],
+            Err(WriteFailed),
+            b"".as_slice(),
         ),
         (b"".as_slice(), 0, [1], Ok(()), b"".as_slice()),
     ] {

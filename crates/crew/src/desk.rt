@@ -107,6 +107,25 @@ impl<'s, 'r, G: Gate> Desk<'s, 'r, G> {
         self.worked::<R, Brand>(rt, alloc, w, Blank::new(1));
     }
 
+    /// An idle hand at seat `w`, 1 to the desk's workers: it claims jobs as `work` does, and releases
+    /// each at once, until the board is closed. Takes no memory. Under `Wait`: where no job stands
+    /// offered, it sleeps as `work` does. It ends where its seat is none of the desk, or has not in
+    /// hand what it left there.
+    pub fn idle<R: Wait>(&self, rt: &R, w: u8) {
+        for _ in rt.forever() {
+            self.gate.at(Point::BeforeClaim(w));
+            match claim_or_wait(rt, &self.board, &self.moved, w) {
+                Claimed::Closed => return,
+                Claimed::NoneNow => {}
+                Claimed::Job(job) => {
+                    if !locked::release(&mut *self.board.lock(rt), w, &job) {
+                        return;
+                    }
+                }
+            }
+        }
+    }
+
     /// The leader goes on with the lead until its run is over. `lead` is of the desk's algebra, new or
     /// begun. Under `Wait`: for the lock and no publication. Whatever it takes from the board, the
     /// journal is that of the machine: each publication is compared with the lead before it is relied

@@ -50,7 +50,7 @@ pub fn crew_basis<R: Threads + Wait + Sync, G: Gate + Sync>(
 
 // A place where workers work and one thread leads: a desk, whatever it borrows. The closure of a
 // scope keeps its contract only where what it captures is of a type parameter.
-trait Workplace {
+pub(crate) trait Workplace {
     // The algebra that it is over.
     ghost over: { Self → Algebra };
 
@@ -74,7 +74,7 @@ impl<'s, 'r, G: Gate> Workplace for Desk<'s, 'r, G> {
 }
 
 // Starts workers and leads them. One that can't be started is one fewer.
-fn crowd<R: Threads + Wait + Sync, D: Workplace + Sync>(
+pub(crate) fn crowd<R: Threads + Wait + Sync, D: Workplace + Sync>(
     rt: &R,
     alloc: Global,
     desk: &D,

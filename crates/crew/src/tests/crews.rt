@@ -4,6 +4,7 @@ ghost use Rattle.std.specs.Prelude.{◌≡◌, ◌≤◌, ◌++◌, ◌∷◌, [
 ghost use Rattle.monomials.specs.Polynomials.{Each, IsPolynomial};
 ghost use Rattle.word_model.specs.Machine.{machine};
 
+use crate::engines::{Workplace, crowd};
 use crate::{By, Crew, Desk, MeetGate, NoGate, Shelf, crew_basis};
 use algebra::{Algebra, Relations};
 use commit_core::{Lead, OneWorker};
@@ -13,6 +14,7 @@ use monomials::{Block, Expo, Order};
 use prime_field::Field;
 use run_records::{Engine, Entry, Journal, Mode};
 use std::alloc::{AllocError, Global};
+use std::sync::Wait;
 use std::test::Fail;
 
 // The generators x a, y b, z - 1 and a^2: terms of a number and a digit for each exponent.
@@ -194,5 +196,39 @@ fn the_board_is_closed_when_the_leader_has_answered(rt: HostRuntime) -> Result<(
     desk.work(&rt, alloc, 1);
     let second = Lead::new(alloc, &alg, &gens, Mode::Left, 100_000)?;
     assert!(rt; same_journals(&desk.lead(&rt, alloc, second)?, &made));
+    Ok(())
+}
+
+// A desk at whose seats idle hands sit in place of workers.
+#[derive(Drop)]
+struct Idling<'a, 's, 'r> {
+    desk: &'a Desk<'s, 'r, NoGate>,
+}
+
+impl<'a, 's, 'r> Workplace for Idling<'a, 's, 'r> {
+    ghost over = { λ d. d.desk.now.algebra };
+
+    fn work<R: Wait>(&self, rt: &R, _alloc: Global, w: u8) {
+        self.desk.idle(rt, w);
+    }
+
+    fn lead<R: Wait>(&self, rt: &R, alloc: Global, lead: Lead) -> Result<Journal, AllocError> {
+        self.desk.lead(rt, alloc, lead)
+    }
+}
+
+#[test]
+fn idle_hands(rt: HostRuntime) -> Result<(), Fail> {
+    let alloc = rt.alloc();
+    let alg = heisenberg(alloc)?;
+    let gens = polys(alloc, alg.field(), alg.order(), GENERATORS)?;
+    let table = Table::new(alloc, &alg)?;
+    let shelf = Shelf::new(alloc)?;
+    let desk = Desk::new(alloc, &alg, &table, &shelf, &gens, &NoGate, 2)?;
+    let lead = Lead::new(alloc, &alg, &gens, Mode::Left, 100_000)?;
+    let beside = crowd(&rt, alloc, &Idling { desk: &desk }, 2, lead)?;
+    let alone = OneWorker::new().basis(alloc, &alg, &gens, Mode::Left, 100_000)?;
+    assert_eq!(rt; alone.entries.len(), 14);
+    assert!(rt; same_journals(&beside, &alone));
     Ok(())
 }

@@ -2,6 +2,7 @@
 
 ghost use Rattle.std.specs.Prelude.{◌≡◌, Some, is_some, option_copied, slice_get, IfSome, OnOk};
 ghost use Rattle.std.specs.List.{list_any};
+ghost use Rattle.std.specs.Result.{OnErr};
 ghost use Rattle.script_model.specs.Environment.{find, here, newest_current, no_rings, put, with_ring, with_value};
 ghost use Rattle.script_values.specs.Kept.{entries_of};
 ghost use Rattle.script_values.specs.Values.{IsValueOf};
@@ -63,10 +64,11 @@ impl Environment {
         self.current = Some(number as usize);
     }
 
-    /// The current ring has a value of this name now.
+    /// The current ring has a value of this name now. Where memory is wanting, nothing has changed.
     pub fn put(&mut self, alloc: Global, name: &[u8], value: Value) -> Result<(), AllocError>
         requires { IfSome (here self.old) (λ R. IsValueOf R.algebra value) }
-        ensures { OnOk result (self.new ≡ with_value self.old name.now value) }
+        ensures value { OnOk result (self.new ≡ with_value self.old name.now value) }
+        ensures refused { OnErr result (self.new ≡ self.old) }
     {
         let Some(number) = self.current else {
             return Ok(());
@@ -85,26 +87,30 @@ impl Environment {
         self.rings.get(number as usize)
     }
 
-    /// A new ring of this name.
+    /// A new ring of this name. Where memory is wanting, nothing has changed.
     pub fn add_ring(&mut self, alloc: Global, name: &[u8], ring: Ring) -> Result<(), AllocError>
-        ensures { OnOk result (self.new ≡ with_ring self.old name.now ring) }
+        ensures value { OnOk result (self.new ≡ with_ring self.old name.now ring) }
+        ensures refused { OnErr result (self.new ≡ self.old) }
     {
         let Ok(number) = u32::try_from(self.rings.len()) else {
             return Err(AllocError);
         };
-        self.rings.push(ring)?;
+        // The room comes first, so that the last step cannot fail.
+        self.rings.reserve(1)?;
         put_number(alloc, &mut self.ring_names, name, number)?;
+        self.rings.push(ring)?;
         Ok(())
     }
 
-    /// A new ring of this name, which is current now.
+    /// A new ring of this name, which is current now. Where memory is wanting, nothing has changed.
     pub fn add_current_ring(
         &mut self,
         alloc: Global,
         name: &[u8],
         ring: Ring,
     ) -> Result<(), AllocError>
-        ensures { OnOk result (self.new ≡ newest_current self.old name.now ring) }
+        ensures value { OnOk result (self.new ≡ newest_current self.old name.now ring) }
+        ensures refused { OnErr result (self.new ≡ self.old) }
     {
         let place = self.rings.len();
         self.add_ring(alloc, name, ring)?;
@@ -127,7 +133,8 @@ fn put_number(
     name: &[u8],
     number: u32,
 ) -> Result<(), AllocError>
-    ensures { OnOk result (entries_of numbers.new.entries ≡ put name.now number (entries_of numbers.old.entries)) }
+    ensures value { OnOk result (entries_of numbers.new.entries ≡ put name.now number (entries_of numbers.old.entries)) }
+    ensures refused { OnErr result (numbers.new.entries ≡ numbers.old.entries) }
 {
     let key = Vec::from_slice(alloc, name)?;
     match numbers.insert(key, number) {

@@ -3,6 +3,7 @@
 ghost use Rattle.std.specs.Prelude.{◌≡◌, ◌<◌, ◌≤◌, suc, Ok, IfOk, if◌then◌else◌};
 ghost use Rattle.monomials.specs.Polynomials.{IsPolynomial};
 ghost use Rattle.word_model.specs.Products.{variable_polynomial};
+ghost use Rattle.gproduct.specs.Seats.{Keeps};
 ghost use Rattle.script_model.specs.Operations.{constant, negative, sum, difference, times, divided, power, power_of};
 ghost use Rattle.script_values.specs.Gives.{Gives};
 
@@ -80,6 +81,7 @@ pub fn times(alloc: Global, seat: &mut TableSeat, f: &GPoly, g: &GPoly) -> Resul
     ensures value { Gives result (times seat.old.algebra f.now g.now) }
     ensures polynomial { IfOk result (λ r. IsPolynomial seat.old.algebra.p seat.old.algebra.order r) }
     ensures algebra { seat.new.algebra ≡ seat.old.algebra }
+    ensures kept { Keeps seat.old seat.new }
 {
     counted_times::<Brand>(alloc, seat, f, g, Blank::new(1))
 }
@@ -100,6 +102,7 @@ fn counted_times<L: Ledger>(
     ensures value { Gives result (times seat.old.algebra f.now g.now) }
     ensures polynomial { IfOk result (λ r. IsPolynomial seat.old.algebra.p seat.old.algebra.order r) }
     ensures algebra { seat.new.algebra ≡ seat.old.algebra }
+    ensures kept { Keeps seat.old seat.new }
 {
     let mut steps = Steps::<L>::start(blank);
     match gproduct::times(alloc, seat, f, g, &mut steps) {
@@ -129,6 +132,7 @@ pub fn power(alloc: Global, seat: &mut TableSeat, f: &GPoly, exponent: u64) -> R
     ensures value { Gives result (power seat.old.algebra f.now exponent) }
     ensures polynomial { IfOk result (λ r. IsPolynomial seat.old.algebra.p seat.old.algebra.order r) }
     ensures algebra { seat.new.algebra ≡ seat.old.algebra }
+    ensures kept { Keeps seat.old seat.new }
 {
     if exponent > 4095 {
         return Err(Stop::Refused(Refusal::Limit));
@@ -141,6 +145,7 @@ fn power_of(alloc: Global, seat: &mut TableSeat, f: &GPoly, exponent: u64) -> Re
     ensures value { Gives result (power_of seat.old.algebra f.now exponent) }
     ensures polynomial { IfOk result (λ r. IsPolynomial seat.old.algebra.p seat.old.algebra.order r) }
     ensures algebra { seat.new.algebra ≡ seat.old.algebra }
+    ensures kept { Keeps seat.old seat.new }
 {
     let mut power = constant(alloc, seat.algebra(), 1)?;
     for _turn in 0..exponent {

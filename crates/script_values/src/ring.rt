@@ -1,6 +1,7 @@
 //! Rings with their values.
 
 ghost use Rattle.std.specs.Prelude.{◌≡◌, ◌<◌, [], IfOk, map, string_bytes, IfSome, OnOk, option_copied};
+ghost use Rattle.std.specs.Result.{OnErr};
 ghost use Rattle.plural_text.specs.Names.{AreNames};
 ghost use Rattle.script_model.specs.Environment.{find, put, variable_place};
 ghost use Rattle.script_values.specs.Values.{IsValueOf};
@@ -104,10 +105,11 @@ impl Ring {
         self.values.get(name)
     }
 
-    /// The name names this value now.
+    /// The name names this value now. Where memory is wanting, the ring is as before.
     pub fn put(&mut self, alloc: Global, name: &[u8], value: Value) -> Result<(), AllocError>
         requires { IsValueOf self.old.algebra value }
-        ensures { OnOk result (self.new ≡ record (self.old) { values = put name.now value self.old.values }) }
+        ensures value { OnOk result (self.new ≡ record (self.old) { values = put name.now value self.old.values }) }
+        ensures refused { OnErr result (self.new ≡ self.old) }
     {
         let key = Vec::from_slice(alloc, name)?;
         match self.values.insert(key, value) {

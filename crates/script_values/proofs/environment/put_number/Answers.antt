@@ -13,6 +13,6 @@ returns c =
           let stored : entries_of c.insert.new.self.entries ≡ put c.args.name.now c.args.number (entries_of es) =
           ap entries_of w.in-Ok.ensures.entries ∙ put_kept c.in_ok-key.key c.args.number es
           ∙ ap (λ n. put n c.args.number (entries_of es)) c.in_ok-key.ensures.items in
-          rw w.result-is stored
-      | in-Err w ↦ rw w.result-is tt
+          rw w.result-is (record { value = stored; refused = tt })
+      | in-Err w ↦ rw w.result-is (record { value = tt; refused = w.in-Err.ensures.err })
     ]

@@ -23,6 +23,10 @@ pub returns-in-Ok : goal.returns-in-Ok
 returns-in-Ok c =
     let R : Ring = kept_ring c.self.inside in
     let es = c.self.inside.values.entries in
-    ap (λ (vs : Names Value). record R { values = vs })
-    (ap entries_of c.in-Ok.ensures.entries ∙ put_kept c.in_ok-key.key c.args.value es ∙ ap (λ n. put n c.args.value (entries_of es)) c.in_ok-key.ensures.items)
-    ∙ ap (λ (Q : Ring). record Q { values = put c.args.name.now c.args.value Q.values }) c.self.view_is
+    record {
+      value =
+          ap (λ (vs : Names Value). record R { values = vs })
+          (ap entries_of c.in-Ok.ensures.entries ∙ put_kept c.in_ok-key.key c.args.value es ∙ ap (λ n. put n c.args.value (entries_of es)) c.in_ok-key.ensures.items)
+          ∙ ap (λ (Q : Ring). record Q { values = put c.args.name.now c.args.value Q.values }) c.self.view_is;
+      refused = tt;
+    }

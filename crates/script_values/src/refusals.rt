@@ -2,6 +2,8 @@
 
 ghost use Rattle.std.specs.Prelude.{◌≡◌, ◌++◌, codes, OnOk};
 ghost use Rattle.std.specs.Fmt.{decimal};
+ghost use Rattle.std.specs.Io.{StartsWith};
+ghost use Rattle.std.specs.Result.{OnErr};
 ghost use Rattle.script_model.specs.Refusals.{pair_text, refusal_line, words_of, status_of as status};
 
 use itoa::{Buffer, Integer};
@@ -23,9 +25,10 @@ pub fn status_of(refusal: &Refusal) -> u8
     }
 }
 
-/// Appends the line of a refusal.
+/// Appends the line of a refusal. Where memory is wanting, a part of it may have been appended.
 pub fn write_refusal(text: &mut Vec<u8>, line: u32, refusal: &Refusal) -> Result<(), AllocError>
-    ensures { OnOk result (text.new.items ≡ text.old.items ++ refusal_line line refusal.now) }
+    ensures value { OnOk result (text.new.items ≡ text.old.items ++ refusal_line line refusal.now) }
+    ensures refused { OnErr result (StartsWith text.new.items text.old.items) }
 {
     text.extend_from_slice(b"? line ")?;
     write_number(text, line)?;
@@ -37,7 +40,8 @@ pub fn write_refusal(text: &mut Vec<u8>, line: u32, refusal: &Refusal) -> Result
 
 /// Appends a number in decimal.
 pub(crate) fn write_number<I: Integer>(text: &mut Vec<u8>, number: I) -> Result<(), AllocError>
-    ensures { OnOk result (text.new.items ≡ text.old.items ++ I.text number) }
+    ensures value { OnOk result (text.new.items ≡ text.old.items ++ I.text number) }
+    ensures refused { OnErr result (StartsWith text.new.items text.old.items) }
 {
     let mut digits = Buffer::new();
     text.extend_from_slice(digits.format(number).as_bytes())
@@ -45,7 +49,8 @@ pub(crate) fn write_number<I: Integer>(text: &mut Vec<u8>, number: I) -> Result<
 
 // Appends the words of a refusal.
 fn write_words(text: &mut Vec<u8>, refusal: &Refusal) -> Result<(), AllocError>
-    ensures { OnOk result (text.new.items ≡ text.old.items ++ words_of refusal.now) }
+    ensures value { OnOk result (text.new.items ≡ text.old.items ++ words_of refusal.now) }
+    ensures refused { OnErr result (StartsWith text.new.items text.old.items) }
 {
     match refusal {
         Refusal::NoRing => text.extend_from_slice(b"NoRing"),
@@ -71,7 +76,8 @@ fn write_words(text: &mut Vec<u8>, refusal: &Refusal) -> Result<(), AllocError>
 
 // Appends a word with a number behind it.
 fn write_numbered<I: Integer>(text: &mut Vec<u8>, word: &[u8], number: I) -> Result<(), AllocError>
-    ensures { OnOk result (text.new.items ≡ text.old.items ++ (word.now ++ I.text number)) }
+    ensures value { OnOk result (text.new.items ≡ text.old.items ++ (word.now ++ I.text number)) }
+    ensures refused { OnErr result (StartsWith text.new.items text.old.items) }
 {
     text.extend_from_slice(word)?;
     write_number(text, number)
@@ -79,7 +85,8 @@ fn write_numbered<I: Integer>(text: &mut Vec<u8>, word: &[u8], number: I) -> Res
 
 // Appends a word with two numbers behind it.
 fn write_pair(text: &mut Vec<u8>, word: &[u8], i: u8, j: u8) -> Result<(), AllocError>
-    ensures { OnOk result (text.new.items ≡ text.old.items ++ (word.now ++ pair_text i j)) }
+    ensures value { OnOk result (text.new.items ≡ text.old.items ++ (word.now ++ pair_text i j)) }
+    ensures refused { OnErr result (StartsWith text.new.items text.old.items) }
 {
     write_numbered(text, word, i)?;
     write_numbered(text, b" ", j)
@@ -87,7 +94,8 @@ fn write_pair(text: &mut Vec<u8>, word: &[u8], i: u8, j: u8) -> Result<(), Alloc
 
 // Appends a word with a name behind it.
 fn write_named(text: &mut Vec<u8>, word: &[u8], name: &[u8]) -> Result<(), AllocError>
-    ensures { OnOk result (text.new.items ≡ text.old.items ++ (word.now ++ name.now)) }
+    ensures value { OnOk result (text.new.items ≡ text.old.items ++ (word.now ++ name.now)) }
+    ensures refused { OnErr result (StartsWith text.new.items text.old.items) }
 {
     text.extend_from_slice(word)?;
     text.extend_from_slice(name)
@@ -95,8 +103,9 @@ fn write_named(text: &mut Vec<u8>, word: &[u8], name: &[u8]) -> Result<(), Alloc
 
 // Appends the words of a triple of variables that leaves a rest.
 fn write_triple(text: &mut Vec<u8>, i: u8, j: u8, k: u8, rest: &[u8]) -> Result<(), AllocError>
-    ensures { OnOk result (text.new.items ≡ text.old.items
+    ensures value { OnOk result (text.new.items ≡ text.old.items
         ++ (codes "NonDegeneracy " ++ (pair_text i j ++ (codes " " ++ (decimal k ++ (codes " " ++ rest.now)))))) }
+    ensures refused { OnErr result (StartsWith text.new.items text.old.items) }
 {
     write_pair(text, b"NonDegeneracy ", i, j)?;
     write_numbered(text, b" ", k)?;

@@ -19,15 +19,15 @@ loop-index-preserved g c =
     let split : drop i lines ≡ line ∷ drop (i + 1) lines = drop_more lines i line below ∙ ap (λ l. l ∷ drop (i + 1) lines) (sym c.index-lines-index.is) in
     let next : suc (i + 1) ≡ i + 1 + 1 = omega arith in
     let added : c.write_line.new.text.items ≡ c.loop-index.text.items ++ line_text alg names basis (i + 1) line =
-      c.in_ok-write_line.ensures.value ∙ ap (λ A. c.loop-index.text.items ++ line_text A names basis (i + 1) line) c.loop-index.invariant.algebra in
+    c.in_ok-write_line.ensures.value ∙ ap (λ A. c.loop-index.text.items ++ line_text A names basis (i + 1) line) c.loop-index.invariant.algebra in
     record {
       written = one_more c.loop-index.text.items c.write_line.new.text.items
-        (line_text alg names basis (i + 1) line)
-        (lines_text alg names basis (i + 1 + 1) (drop (i + 1) lines))
-        (lines_text alg names basis (i + 1) (drop i lines)) _
-        added
-        (ap (lines_text alg names basis (i + 1)) split ∙ ap (λ k. line_text alg names basis (i + 1) line ++ lines_text alg names basis k (drop (i + 1) lines)) next)
-        c.loop-index.invariant.written;
+          (line_text alg names basis (i + 1) line)
+          (lines_text alg names basis (i + 1 + 1) (drop (i + 1) lines))
+          (lines_text alg names basis (i + 1) (drop i lines)) _
+          added
+          (ap (lines_text alg names basis (i + 1)) split ∙ ap (λ k. line_text alg names basis (i + 1) line ++ lines_text alg names basis k (drop (i + 1) lines)) next)
+          c.loop-index.invariant.written;
       each = search rules;
       algebra = c.write_line.ensures.algebra ∙ c.loop-index.invariant.algebra;
     }

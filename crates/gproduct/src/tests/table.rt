@@ -45,18 +45,41 @@ fn learns(alloc: Global, seat: &mut TableSeat, place: Place) -> Option<bool>
     Some(matches!(learned, Learned::Shared))
 }
 
-// Whether one seat learns the place, and then a second one by the same cell; and whether the value is the one that is computed
-// alone.
+// A seat at a table.
+fn seat_at<'t, 'r>(alloc: Global, table: &'t Table<'r>) -> Option<TableSeat<'t, 'r>>
+    ensures { IfSome result (λ s. s.algebra ≡ table.now) }
+{
+    table.seat(alloc).ok()
+}
+
+// Whether a seat that does not know the place learns it by its cell, with this value.
+fn learns_value(alloc: Global, seat: &mut TableSeat, place: Place, value: &GPoly) -> Option<bool>
+    requires { IsPlace seat.old.algebra place }
+{
+    let unknown = seat.known(place).is_none();
+    let learns = learns(alloc, seat, place)?;
+    let same = seat.known(place)?.equals(value);
+    Some(unknown && learns && same)
+}
+
+// Whether one seat learns the place, and then a second one, which did not see that, by the same cell; and whether the value is the
+// one that is computed alone.
+fn seats_share(alloc: Global, table: &Table, place: Place, value: &GPoly) -> Option<bool>
+    requires { IsPlace table.now place }
+{
+    let mut first = seat_at(alloc, table)?;
+    let mut second = seat_at(alloc, table)?;
+    let first_learns = learns_value(alloc, &mut first, place, value)?;
+    let second_learns = learns_value(alloc, &mut second, place, value)?;
+    Some(first_learns && second_learns)
+}
+
+// Whether seats at a table of the algebra share the place.
 fn is_shared(alloc: Global, algebra: &Algebra, place: Place, value: &GPoly) -> Option<bool>
     requires { IsPlace algebra.now place }
 {
     let table = Table::new(alloc, algebra).ok()?;
-    let (mut first, mut second) = (table.seat(alloc).ok()?, table.seat(alloc).ok()?);
-    let first_learns = learns(alloc, &mut first, place)?;
-    let unknown = second.known(place).is_none();
-    let second_learns = learns(alloc, &mut second, place)?;
-    let same = second.known(place)?.equals(value);
-    Some(first_learns && unknown && second_learns && same)
+    seats_share(alloc, &table, place, value)
 }
 
 // Whether a value is the monomial x_i^b x_j^a.

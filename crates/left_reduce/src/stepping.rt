@@ -82,6 +82,7 @@ pub(crate) fn all_steps<B: Elements, L: Ledger>(
             }
         }
     }
+    trace.shrink();
     let rest = work.into_poly(alloc, field, order)?;
     Ok(Stepped {
         trace,

@@ -69,7 +69,12 @@ impl Field {
         ensures value { result ≡ (a + b) % self }
         ensures in_range { result < self }
     {
-        (a + b) % self.p
+        let sum = a + b;
+        if sum < self.p {
+            sum
+        } else {
+            sum - self.p
+        }
     }
 
     /// The difference `a - b` of two elements.
@@ -79,7 +84,11 @@ impl Field {
         ensures value { result ≡ (a + (self - b)) % self }
         ensures in_range { result < self }
     {
-        (a + (self.p - b)) % self.p
+        if a < b {
+            a + (self.p - b)
+        } else {
+            a - b
+        }
     }
 
     /// The element whose sum with `a` is zero.
@@ -88,7 +97,11 @@ impl Field {
         ensures value { result ≡ (self - a) % self }
         ensures in_range { result < self }
     {
-        (self.p - a) % self.p
+        if a == 0 {
+            0
+        } else {
+            self.p - a
+        }
     }
 
     /// The product of two elements, which is zero only where a factor is.
@@ -99,7 +112,7 @@ impl Field {
         ensures in_range { result < self }
         ensures not_zero { 0 < a → 0 < b → 0 < result }
     {
-        a * b % self.p
+        remainder(a * b, self.p)
     }
 
     /// The element that `n` is congruent to.
@@ -173,6 +186,19 @@ impl Field {
             rest /= 2;
         }
         power
+    }
+}
+
+// The remainder of a division by `p`. By a number that the compiler knows it is a product, so the
+// two primes that most scripts take are named.
+fn remainder(n: u32, p: u32) -> u32
+    requires { 0 < p }
+    ensures { result ≡ n % p }
+{
+    match p {
+        32003 => n % 32003,
+        65521 => n % 65521,
+        _ => n % p,
     }
 }
 

@@ -96,6 +96,13 @@ impl Trace {
         Ok(())
     }
 
+    /// Gives back the room behind the last step, for a trace that is kept.
+    pub fn shrink(&mut self)
+        ensures { self.new ≡ self.old }
+    {
+        self.steps.shrink_to_fit();
+    }
+
     /// The steps. Takes no memory.
     pub fn steps(&self) -> &[TraceStep]
         ensures { result.now ≡ self.now }

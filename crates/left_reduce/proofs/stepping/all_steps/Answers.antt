@@ -1,4 +1,4 @@
-use Rattle.std.proofs.Common.{◌≡◌, ◌+◌, ◌≤◌, ◌<◌, ◌++◌, max, [], ◌∷◌, drop, length, true, false, Some, refl, sym, ap, ◌∙◌, subst, arith, length-append}
+use Rattle.std.proofs.Common.{◌≡◌, ◌+◌, ◌≤◌, ◌<◌, ◌++◌, max, List, [], ◌∷◌, drop, length, true, false, Some, refl, sym, ap, ◌∙◌, subst, arith, length-append}
 use Rattle.monomials.specs.Orders.{order_cmp}
 use Rattle.monomials.specs.Polynomials.{Polynomial, IsPolynomial, poly_add, poly_degree}
 use Rattle.gpoly.specs.Terms.{pair_of}
@@ -6,6 +6,7 @@ use Rattle.gpoly.specs.Sums.{poly_sum, AreSorted}
 use Rattle.word_model.specs.Words.{Algebra}
 use Rattle.word_model.specs.Conditions.{IsGAlgebra}
 use Rattle.word_model.specs.Products.{degree_limit}
+use Rattle.word_model.specs.declared.records.TraceStep.{TraceStep}
 use Rattle.word_model.specs.Reduction.{Ends, Undefined, Goes, next_step, Reduced}
 use Rattle.word_model.proofs.Reductions.{next_step-sorted}
 use Rattle.left_reduce.specs.Inside.Steps.{target_of, target_by, next_of, products_of, after_steps, reduction_by, whole_of, IsPassed}
@@ -222,8 +223,9 @@ returns-clause-value g c =
     let left : rest ≡ whole_of A.p A.order c.loop-work.work =
     ours A c.algebra-alg.result.now c.algebra-alg.ensures c.field-field.result c.order-order.result.now c.field-field.ensures c.order-order.ensures
     (λ p o. rest ≡ whole_of p o c.target.new.self) c.in_ok-rest.ensures ∙ (searched_default g at).whole in
+    let with_trace : List TraceStep → Reduced = λ t. record { trace = t; rest = rest; over = false } in
     let with_rest : Polynomial → Reduced = λ r. record { trace = c.loop-work.trace; rest = r; over = false } in
-    ap with_rest left ∙ sym (ended g at)
+    ap with_trace c.shrink.ensures ∙ ap with_rest left ∙ sym (ended g at)
 
 pub returns-clause-counted : goal.returns-clause-counted
 returns-clause-counted g c =

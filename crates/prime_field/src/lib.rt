@@ -70,11 +70,7 @@ impl Field {
         ensures in_range { result < self }
     {
         let sum = a + b;
-        if sum < self.p {
-            sum
-        } else {
-            sum - self.p
-        }
+        if sum < self.p { sum } else { sum - self.p }
     }
 
     /// The difference `a - b` of two elements.
@@ -84,11 +80,7 @@ impl Field {
         ensures value { result ≡ (a + (self - b)) % self }
         ensures in_range { result < self }
     {
-        if a < b {
-            a + (self.p - b)
-        } else {
-            a - b
-        }
+        if a < b { a + (self.p - b) } else { a - b }
     }
 
     /// The element whose sum with `a` is zero.
@@ -97,11 +89,7 @@ impl Field {
         ensures value { result ≡ (self - a) % self }
         ensures in_range { result < self }
     {
-        if a == 0 {
-            0
-        } else {
-            self.p - a
-        }
+        if a == 0 { 0 } else { self.p - a }
     }
 
     /// The product of two elements, which is zero only where a factor is.

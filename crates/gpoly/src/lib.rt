@@ -71,6 +71,14 @@ impl GPoly {
         Ok(GPoly { terms })
     }
 
+    /// The polynomial with these terms in this order, in their memory.
+    pub fn of_terms(terms: Vec<Term>) -> GPoly
+        requires { IsTermList (pairs_of terms.items) }
+        ensures { result ≡ pairs_of terms.items }
+    {
+        GPoly { terms }
+    }
+
     /// The polynomial with these terms, given in any order and with any repetition: equal monomials
     /// are added up. It is sorted by the order.
     pub fn from_terms(

@@ -1,76 +1,14 @@
 //! Worked eliminations. Tables are texts: a polynomial is its terms, each a number and the digits of its exponents.
 
-ghost use Rattle.std.specs.Prelude.{◌≡◌, ◌≤◌, ◌∷◌, ◌++◌, [], length, All, IfOk, OnOk};
-ghost use Rattle.monomials.specs.Polynomials.{Each, HasVars, IsPolynomial};
+ghost use Rattle.std.specs.Prelude.{◌≡◌, ◌≤◌, All, IfOk};
+ghost use Rattle.monomials.specs.Polynomials.{Each, IsPolynomial};
 
 use super::*;
 use algebra::Relations;
-use gpoly::Term;
-use monomials::{Block, Expo, Order};
+use monomials::{Block, Order};
 use prime_field::Field;
 use std::test::Fail;
-
-// The monomial with three digits as exponents.
-fn monomial(text: &str) -> Result<Expo, Fail>
-    ensures { IfOk result (λ m. length m ≡ 3) }
-{
-    let [x, y, z] = text.as_bytes() else {
-        return Err("a term has three exponents".into());
-    };
-    let digit = |byte: u8| u16::from(byte.saturating_sub(b'0'));
-    let mono = Expo::of(&[digit(*x), digit(*y), digit(*z)]);
-    Ok(mono)
-}
-
-// The sum of the terms, as `1:110 1:000` for the product of the first two variables and 1.
-fn poly(alloc: Global, field: Field, order: &Order, text: &str) -> Result<GPoly, Fail>
-    requires { order.now.vars ≡ 3 }
-    ensures { IfOk result (λ f. IsPolynomial field order.now f) }
-{
-    let mut sum = GPoly::zero(alloc);
-    for piece in text.split(' ') {
-        let part = term(alloc, field, order, piece)?;
-        sum = sum.add(alloc, field, order, &part)?;
-    }
-    Ok(sum)
-}
-
-// The polynomial with one term, as `2:100`.
-fn term(alloc: Global, field: Field, order: &Order, text: &str) -> Result<GPoly, Fail>
-    requires { order.now.vars ≡ 3 }
-    ensures { IfOk result (λ f. IsPolynomial field order.now f) }
-{
-    let (number, exponents) = text.split_once(':').ok_or("a term has a colon")?;
-    let coef = field.from_int(number.parse::<u64>()?);
-    let mono = monomial(exponents)?;
-    if mono.degree() > 4095 {
-        return Err("a term has a degree of at most 4095".into());
-    }
-    let term = GPoly::from_terms(alloc, field, order, &[Term { coef, mono }])?;
-    Ok(term)
-}
-
-fn push(polys: &mut Vec<GPoly>, poly: GPoly) -> Result<(), AllocError>
-    ensures { OnOk result (polys.new.items ≡ polys.old.items ++ poly ∷ []) }
-{
-    polys.push(poly)?;
-    Ok(())
-}
-
-// The polynomials between the semicolons of a text, of which there may be none.
-fn polys(alloc: Global, field: Field, order: &Order, text: &str) -> Result<Vec<GPoly>, Fail>
-    requires { order.now.vars ≡ 3 }
-    ensures { IfOk result (λ fs. Each (HasVars 3) fs.items) }
-{
-    let mut polys = Vec::new(alloc);
-    if !text.is_empty() {
-        for piece in text.split(';') {
-            let part = poly(alloc, field, order, piece)?;
-            push(&mut polys, part)?;
-        }
-    }
-    Ok(polys)
-}
+use worked_algebras::{poly, polys};
 
 // The variables that a text has as digits.
 fn variables(alloc: Global, text: &str) -> Result<Vec<u8>, Fail>
@@ -113,8 +51,14 @@ fn same(fs: &[GPoly], gs: &[GPoly]) -> bool {
 }
 
 // What the list has without the variables.
-fn without(alloc: Global, list: &[GPoly], vars: &[u8]) -> Result<Vec<GPoly>, AllocError>
-    requires of_three { Each (HasVars 3) list.now }
+fn without(
+    alloc: Global,
+    alg: &Algebra,
+    list: &[GPoly],
+    vars: &[u8],
+) -> Result<Vec<GPoly>, AllocError>
+    requires of_three { alg.now.order.vars ≡ 3 }
+    requires sorted { Each (IsPolynomial alg.now.p alg.now.order) list.now }
     requires in_range { All (λ v. (1 ≤ v) × (v ≤ 3)) vars.now }
 {
     restrict(alloc, list, vars)
@@ -123,11 +67,11 @@ fn without(alloc: Global, list: &[GPoly], vars: &[u8]) -> Result<Vec<GPoly>, All
 // Variables, a list, and what it has without them. The first list is the reduced basis for x-t and y-t^2 where t
 // is eliminated.
 const RESTRICTED: &str = "\
-1|1:020 100:001;1:100 100:010|1:020 100:001
-12|1:020 100:001;1:100 100:010|
-3|1:020 100:001;1:100 100:010|1:100 100:010
-13|1:100;1:001;1:010;1:111|1:010
-23|1:000;1:100 1:010;1:200|1:000;1:200
+1|1:020 100:001, 1:100 100:010|1:020 100:001
+12|1:020 100:001, 1:100 100:010|
+3|1:020 100:001, 1:100 100:010|1:100 100:010
+13|1:100, 1:001, 1:010, 1:111|1:010
+23|1:000, 1:100 1:010, 1:200|1:000, 1:200
 2|1:001 1:000|1:001 1:000";
 
 #[test]
@@ -140,9 +84,9 @@ fn restricts_lists(rt: HostRuntime) -> Result<(), Fail> {
             return Err("a row has three fields".into());
         };
         let vars = variables(alloc, vars)?;
-        let list = polys(alloc, without_t.field(), without_t.order(), list)?;
-        let want = polys(alloc, ring.field(), ring.order(), want)?;
-        let kept = without(alloc, &list, &vars)?;
+        let list = polys(alloc, &without_t, list)?;
+        let want = polys(alloc, &ring, want)?;
+        let kept = without(alloc, &without_t, &list, &vars)?;
         assert!(rt; same(&kept, &want), "{row}");
     }
     Ok(())

@@ -1,5 +1,5 @@
 use Rattle.monomials.specs.Polynomials.{IsPolynomial}
-use Rattle.elimination.proofs.tests.poly.Given as goal
+use Rattle.worked_algebras.proofs.poly.Given as goal
 
 -- the sum so far is sorted
 abbrev pub invariant-loop-piece : goal.invariant-loop-piece

@@ -5,6 +5,7 @@ ghost use Rattle.monomials.specs.Polynomials.{Each};
 ghost use Rattle.word_model.specs.Finished.{finished};
 ghost use Rattle.word_model.specs.Machine.{IsElement, machine};
 ghost use Rattle.word_model.specs.declared.records.Outcome.TheVariants.{Finished as Ended};
+ghost use Rattle.gproduct.specs.Seats.{Keeps};
 ghost use Rattle.script_model.specs.Functions as spec;
 ghost use Rattle.script_values.specs.Gives.{Gives};
 ghost use Rattle.script_values.specs.Values.{ArePolynomials};
@@ -52,6 +53,7 @@ pub(crate) fn basis_over<E: Engine, L: Ledger>(
     ensures basis { IfOk result (IsBasisOf seat.old.algebra mode scope.now.budget generators.now) }
     ensures ready { E.can_run engine.new }
     ensures seat { seat.new.algebra ≡ seat.old.algebra }
+    ensures kept { Keeps seat.old seat.new }
 {
     let run = run_over(scope, engine, seat.algebra(), generators, mode)?;
     let list = finished_list(scope, seat, &run, steps)?;
@@ -102,6 +104,7 @@ fn finished_list<L: Ledger>(
     ensures elements { IfOk result (λ found. Each (IsElement seat.old.algebra) found.list) }
     ensures short { IfOk result (λ found. length found.list ≤ 2048) }
     ensures seat { seat.new.algebra ≡ seat.old.algebra }
+    ensures kept { Keeps seat.old seat.new }
 {
     match reduced(scope.alloc, seat, run, steps) {
         Ok(list) => Ok(list),

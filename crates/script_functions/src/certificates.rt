@@ -2,6 +2,7 @@
 
 ghost use Rattle.std.specs.Prelude.{◌≡◌, IfOk};
 ghost use Rattle.monomials.specs.Polynomials.{Each};
+ghost use Rattle.gproduct.specs.Seats.{Keeps};
 ghost use Rattle.script_model.specs.Functions as spec;
 ghost use Rattle.script_values.specs.Gives.{Gives};
 ghost use Rattle.script_values.specs.Values.{IsValueOf};
@@ -32,6 +33,7 @@ pub(crate) fn twochain<E: Engine, L: Ledger>(
     ensures of_ring { IfOk result (IsValueOf scope.now.ring.algebra) }
     ensures ready { E.can_run engine.new }
     ensures seat { seat.new.algebra ≡ seat.old.algebra }
+    ensures kept { Keeps seat.old seat.new }
 {
     let generators = joined(scope, arguments)?;
     let generators = generators.as_slice();

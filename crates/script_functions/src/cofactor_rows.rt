@@ -4,6 +4,7 @@ ghost use Rattle.std.specs.Prelude.{◌≡◌, ◌≤◌, length, IfOk};
 ghost use Rattle.monomials.specs.Polynomials.{Each};
 ghost use Rattle.word_model.specs.Cofactors.{cofactor_rows};
 ghost use Rattle.word_model.specs.declared.records.Mode.TheVariants.{Left};
+ghost use Rattle.gproduct.specs.Seats.{Keeps};
 ghost use Rattle.script_model.specs.Functions as spec;
 ghost use Rattle.script_values.specs.Gives.{Gives};
 ghost use Rattle.script_values.specs.Values.{ArePolynomials, IsValueOf};
@@ -36,6 +37,7 @@ pub(crate) fn cofactors<E: Engine, L: Ledger>(
     ensures of_ring { IfOk result (IsValueOf scope.now.ring.algebra) }
     ensures ready { E.can_run engine.new }
     ensures seat { seat.new.algebra ≡ seat.old.algebra }
+    ensures kept { Keeps seat.old seat.new }
 {
     let generators = joined(scope, arguments)?;
     let generators = generators.as_slice();
@@ -58,6 +60,7 @@ fn rows_of<L: Ledger>(
     ensures value { Gives result (spec.reached (cofactor_rows seat.old.algebra generators.now found.now.0 found.now.1)) }
     ensures polynomials { IfOk result (λ rows. Each (ArePolynomials seat.old.algebra) rows) }
     ensures seat { seat.new.algebra ≡ seat.old.algebra }
+    ensures kept { Keeps seat.old seat.new }
 {
     match rows(
         scope.alloc,

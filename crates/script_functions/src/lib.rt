@@ -3,6 +3,7 @@
 
 ghost use Rattle.std.specs.Prelude.{◌≡◌, ◌<◌, IfOk};
 ghost use Rattle.monomials.specs.Polynomials.{Each};
+ghost use Rattle.gproduct.specs.Seats.{Keeps};
 ghost use Rattle.script_model.specs.Functions as spec;
 ghost use Rattle.script_values.specs.Gives.{Gives};
 ghost use Rattle.script_values.specs.Values.{IsValueOf};
@@ -52,6 +53,7 @@ pub fn apply<E: Engine>(
     ensures of_ring { IfOk result (IsValueOf scope.now.ring.algebra) }
     ensures ready { E.can_run engine.new }
     ensures seat { seat.new.algebra ≡ seat.old.algebra }
+    ensures kept { Keeps seat.old seat.new }
 {
     let arguments = arguments.as_slice();
     counted_apply::<E, Brand>(scope, engine, seat, function, arguments, Blank::new(1))
@@ -77,6 +79,7 @@ fn counted_apply<E: Engine, L: Ledger>(
     ensures of_ring { IfOk result (IsValueOf scope.now.ring.algebra) }
     ensures ready { E.can_run engine.new }
     ensures seat { seat.new.algebra ≡ seat.old.algebra }
+    ensures kept { Keeps seat.old seat.new }
 {
     let mut steps = Steps::<L>::start(blank);
     match function {

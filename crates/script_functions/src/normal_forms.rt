@@ -3,6 +3,7 @@
 ghost use Rattle.std.specs.Prelude.{◌≡◌, ◌≤◌, length, IfOk};
 ghost use Rattle.monomials.specs.Polynomials.{Each, IsPolynomial};
 ghost use Rattle.word_model.specs.Reduction.{normal_form_by};
+ghost use Rattle.gproduct.specs.Seats.{Keeps};
 ghost use Rattle.script_model.specs.Functions as spec;
 ghost use Rattle.script_values.specs.Gives.{Gives};
 ghost use Rattle.script_values.specs.Values.{ArePolynomials, IsValueOf};
@@ -47,6 +48,7 @@ pub(crate) fn normal_form<L: Ledger>(
     ensures value { Gives result (spec.normal_form scope.now.ring.algebra arguments.now) }
     ensures of_ring { IfOk result (IsValueOf scope.now.ring.algebra) }
     ensures seat { seat.new.algebra ≡ seat.old.algebra }
+    ensures kept { Keeps seat.old seat.new }
 {
     let [value, by] = arguments else {
         return Err(Stop::Refused(Refusal::Kind));
@@ -78,6 +80,7 @@ fn normal_forms<L: Ledger>(
     ensures polynomials { IfOk result (ArePolynomials seat.old.algebra) }
     ensures one_each { IfOk result (λ forms. length forms ≡ length polys.now) }
     ensures seat { seat.new.algebra ≡ seat.old.algebra }
+    ensures kept { Keeps seat.old seat.new }
 {
     let mut forms = Items::new(scope.alloc);
     for f in polys {
@@ -100,6 +103,7 @@ fn normal_form_of<L: Ledger>(
     ensures value { Gives result (spec.rest_of (normal_form_by seat.old.algebra reducers.now.polys.now f.now)) }
     ensures polynomial { IfOk result (IsPolynomial seat.old.algebra.p seat.old.algebra.order) }
     ensures seat { seat.new.algebra ≡ seat.old.algebra }
+    ensures kept { Keeps seat.old seat.new }
 {
     match left_reduce::normal_form(scope.alloc, seat, reducers, f, steps) {
         Ok((form, _)) => Ok(form),

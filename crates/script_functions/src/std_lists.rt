@@ -2,6 +2,7 @@
 
 ghost use Rattle.std.specs.Prelude.{◌≡◌, IfOk};
 ghost use Rattle.monomials.specs.Polynomials.{Each};
+ghost use Rattle.gproduct.specs.Seats.{Keeps};
 ghost use Rattle.script_model.specs.Functions as spec;
 ghost use Rattle.script_values.specs.Gives.{Gives};
 ghost use Rattle.script_values.specs.Values.{IsValueOf};
@@ -31,6 +32,7 @@ pub(crate) fn std_list<E: Engine, L: Ledger>(
     ensures of_ring { IfOk result (IsValueOf scope.now.ring.algebra) }
     ensures ready { E.can_run engine.new }
     ensures seat { seat.new.algebra ≡ seat.old.algebra }
+    ensures kept { Keeps seat.old seat.new }
 {
     let generators = joined(scope, arguments)?;
     let found = basis_over(scope, engine, seat, generators.as_slice(), mode, steps)?;

@@ -6,6 +6,7 @@ ghost use Rattle.word_model.specs.Machine.{machine};
 ghost use Rattle.word_model.specs.Syzygies.{syzygy_rows};
 ghost use Rattle.word_model.specs.declared.records.Mode.TheVariants.{Left};
 ghost use Rattle.word_model.specs.declared.records.Outcome.TheVariants.{Finished as Ended};
+ghost use Rattle.gproduct.specs.Seats.{Keeps};
 ghost use Rattle.script_model.specs.Functions as spec;
 ghost use Rattle.script_values.specs.Gives.{Gives};
 ghost use Rattle.script_values.specs.Values.{ArePolynomials, IsValueOf};
@@ -36,6 +37,7 @@ pub(crate) fn syz<E: Engine, L: Ledger>(
     ensures of_ring { IfOk result (IsValueOf scope.now.ring.algebra) }
     ensures ready { E.can_run engine.new }
     ensures seat { seat.new.algebra ≡ seat.old.algebra }
+    ensures kept { Keeps seat.old seat.new }
 {
     let generators = joined(scope, arguments)?;
     let generators = generators.as_slice();
@@ -59,6 +61,7 @@ fn relations<L: Ledger>(
     ensures value { Gives result (spec.reached (syzygy_rows seat.old.algebra generators.now run.now)) }
     ensures polynomials { IfOk result (λ rows. Each (ArePolynomials seat.old.algebra) rows) }
     ensures seat { seat.new.algebra ≡ seat.old.algebra }
+    ensures kept { Keeps seat.old seat.new }
 {
     match syzygies::syz(scope.alloc, seat, generators, run, steps) {
         Ok(rows) => Ok(Items::from_vec(rows)),

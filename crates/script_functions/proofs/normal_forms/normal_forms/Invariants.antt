@@ -1,4 +1,5 @@
 use Rattle.std.proofs.Common.{◌≡◌, drop, length}
+use Rattle.gproduct.specs.Seats.{Keeps}
 use Rattle.script_model.specs.Functions.{normal_forms}
 use Rattle.script_values.specs.Prepended.{prepended}
 use Rattle.script_values.specs.Values.{ArePolynomials}
@@ -10,4 +11,5 @@ invariant-loop-f g l = record {
   polynomials : ArePolynomials l.fn.seat.algebra l.forms;
   one_each : length l.forms ≡ l.f-index;
   seat : l.seat.algebra ≡ l.fn.seat.algebra;
+  kept : Keeps l.fn.seat l.seat;
 }

@@ -56,6 +56,7 @@ pub fn reply_to_script<E: Engine, S: Source>(
         (record { left = S.left source.old; faults = S.faults source.old })
         (record { left = S.left source.new; faults = S.faults source.new })) }
     ensures untouched { IsFalse (asks_source (Some settings)) → source.new ≡ source.old }
+    ensures ready { E.can_run engine.new }
     ensures read { result ≡ Err Stopped.Read → (settings.make ≡ None) × Rose (S.faults source.old) (S.faults source.new) }
 {
     match settings.make {
@@ -73,7 +74,8 @@ fn reply_to_made<E: Engine>(
 ) -> Result<Reply, AllocError>
     requires ready { E.can_run engine.old }
     requires some { 1 ≤ pairs }
-    ensures { IfOk result (IsAnswer pairs (made_script number)) }
+    ensures value { IfOk result (IsAnswer pairs (made_script number)) }
+    ensures ready { E.can_run engine.new }
 {
     let script = script_of(alloc, number)?;
     answer(alloc, &script, pairs, engine)
@@ -91,6 +93,7 @@ fn reply_to_source<E: Engine, S: Source>(
     ensures reply { IfOk result (λ reply. (bytes : List ℕ) × IsReadOut bytes
         (record { left = S.left source.old; faults = S.faults source.old })
         (record { left = S.left source.new; faults = S.faults source.new }) × IsAnswer pairs bytes reply) }
+    ensures ready { E.can_run engine.new }
     ensures read { result ≡ Err Stopped.Read → Rose (S.faults source.old) (S.faults source.new) }
 {
     match read_all(alloc, source) {

@@ -29,7 +29,7 @@ pub fn refuse_words<K: Sink>(alloc: Global, program: Program, sink: &mut K) -> u
 }
 
 /// The run of a program that is told these settings: the engine answers the script that the source has left, or the
-/// made one that the settings ask for. The whole text stands before the first write.
+/// made one that the settings ask for. The whole text stands before the first write. The engine can run again.
 pub fn run_script<E: Engine, S: Source, K: Sink>(
     alloc: Global,
     settings: Settings,
@@ -47,6 +47,7 @@ pub fn run_script<E: Engine, S: Source, K: Sink>(
         (record { held = K.held sink.new; faults = K.faults sink.new }) result }
     // A made script leaves the source as it was.
     ensures untouched { IsFalse (asks_source (Some settings)) → source.new ≡ source.old }
+    ensures ready { E.can_run engine.new }
 {
     match reply_to_script(alloc, settings, source, engine) {
         Ok(reply) => write_reply(sink, &reply),

@@ -1,0 +1,2 @@
+pub mod Ideals
+pub mod Inside

@@ -212,17 +212,23 @@ fn world_text(
     Ok(text)
 }
 
-// The generators x d and d^2.
-fn gens(alloc: Global, alg: &Algebra) -> Result<Vec<GPoly>, Fail>
+// Generators from a text, at most 4096.
+fn gens(alloc: Global, alg: &Algebra, text: &str) -> Result<Vec<GPoly>, Fail>
     ensures sorted { IfOk result (λ fs. Each (IsPolynomial alg.now.p alg.now.order) fs.items) }
     ensures few { IfOk result (λ fs. length fs.items ≤ 4096) }
 {
-    let gens = polys(alloc, alg, "1.1.1, 1.0.2")?;
+    let gens = polys(alloc, alg, text)?;
     if gens.len() > 4096 {
         return Err("there are at most 4096 generators".into());
     }
     Ok(gens)
 }
+
+// The generators x d and d^2.
+const TWO: &str = "1.1.1, 1.0.2";
+
+// The monomials of degree three.
+const FOUR: &str = "1.3.0, 1.2.1, 1.1.2, 1.0.3";
 
 // Events that do not apply change nothing; a publication after its commit is never taken; a reduction
 // that was taken is committed.
@@ -259,7 +265,7 @@ fn worlds(alloc: Global, alg: &Algebra, gens: &[GPoly], lists: &str) -> Result<S
 fn makes_the_worlds_of_lists(rt: HostRuntime) -> Result<(), Fail> {
     let alloc = rt.alloc();
     let alg = weyl(alloc)?;
-    let gens = gens(alloc, &alg)?;
+    let gens = gens(alloc, &alg, TWO)?;
     let text = worlds(alloc, &alg, &gens, LISTS)?;
     assert_eq!(rt; text.as_str(), WORLDS);
     Ok(())
@@ -306,14 +312,21 @@ fn draws(alloc: Global, first: u32, count: usize) -> Result<Vec<Event>, AllocErr
     Ok(events)
 }
 
-// Whether the entries after each list are the first ones of the text.
-fn are_fronts(alloc: Global, alg: &Algebra, gens: &[GPoly], whole: &str) -> Result<bool, Fail>
+// Whether the entries after each list of so many events are the first ones of the text.
+fn are_fronts(
+    alloc: Global,
+    alg: &Algebra,
+    gens: &[GPoly],
+    mode: Mode,
+    count: usize,
+    whole: &str,
+) -> Result<bool, Fail>
     requires sorted { Each (IsPolynomial alg.now.p alg.now.order) gens.now }
     requires few { length gens.now ≤ 4096 }
 {
     for first in 0..3000 {
-        let events = draws(alloc, first, 40)?;
-        let world = replay(alloc, alg, gens, Mode::Left, 100, &events)?;
+        let events = draws(alloc, first, count)?;
+        let world = replay(alloc, alg, gens, mode, 100, &events)?;
         let mut text = String::new(alloc);
         push_entries(&mut text, world.lead.entries())?;
         if !whole.starts_with(text.as_str()) {
@@ -323,14 +336,35 @@ fn are_fronts(alloc: Global, alg: &Algebra, gens: &[GPoly], whole: &str) -> Resu
     Ok(true)
 }
 
+// The entries of one worker, one a line.
+fn entries_of(alloc: Global, alg: &Algebra, gens: &[GPoly], mode: Mode) -> Result<String, Fail>
+    requires sorted { Each (IsPolynomial alg.now.p alg.now.order) gens.now }
+    requires few { length gens.now ≤ 4096 }
+{
+    let journal = OneWorker::new().basis(alloc, alg, gens, mode, 100)?;
+    let mut text = String::new(alloc);
+    push_entries(&mut text, &journal.entries)?;
+    Ok(text)
+}
+
 #[test]
 fn makes_the_entries_of_one_worker(rt: HostRuntime) -> Result<(), Fail> {
     let alloc = rt.alloc();
     let alg = weyl(alloc)?;
-    let gens = gens(alloc, &alg)?;
-    let journal = OneWorker::new().basis(alloc, &alg, &gens, Mode::Left, 100)?;
-    let mut whole = String::new(alloc);
-    push_entries(&mut whole, &journal.entries)?;
-    assert!(rt; are_fronts(alloc, &alg, &gens, whole.as_str())?);
+    let gens = gens(alloc, &alg, TWO)?;
+    let whole = entries_of(alloc, &alg, &gens, Mode::Left)?;
+    assert!(rt; are_fronts(alloc, &alg, &gens, Mode::Left, 40, whole.as_str())?);
+    Ok(())
+}
+
+// More than three elements, and their products with variables.
+#[test]
+fn makes_the_entries_of_two_sided_runs(rt: HostRuntime) -> Result<(), Fail> {
+    let alloc = rt.alloc();
+    let alg = weyl(alloc)?;
+    let gens = gens(alloc, &alg, FOUR)?;
+    let whole = entries_of(alloc, &alg, &gens, Mode::TwoSided)?;
+    assert!(rt; whole.contains("New Right"));
+    assert!(rt; are_fronts(alloc, &alg, &gens, Mode::TwoSided, 100, whole.as_str())?);
     Ok(())
 }

@@ -288,14 +288,26 @@ offer-still world w shows open_now none =
     let open' = subst (λ l. closed l ≡ false) shows.log open_now in
     subst (Shows world) (sym (ap (λ b. if b then w else offer_first world.lead.algebra world.lead.generators w (off_board w.log w.state.queue)) open' ∙ offer-none world.lead w shows.lead none')) shows
 
-pub all_jobs : (jobs all : List Job) (n : ℕ) → jobs ≡ take n all → length jobs ≢ n → jobs ≡ all
-all_jobs jobs all n is other = is ∙ take-short all n (below (length (take n all)) n (length-take n all) (λ e. other (ap length is ∙ e)))
+-- the first job off the board among the next ones is the first of all
+pub find-ahead : (log : List BoardEvent) (all jobs : List Job) (n : ℕ) (job : Job) → jobs ≡ take n all
+    → find (λ j. is_off (standing log j)) jobs ≡ Some job → find (λ j. is_off (standing log j)) all ≡ Some job
+find-ahead log all jobs n job is e = among all n (subst (λ js. find (λ j. is_off (standing log j)) js ≡ Some job) is e)
   where
-    below : (a m : ℕ) → a ≡ min m (length all) → a ≢ m → a < m
-    below a m e ne = elim (cases_lt a m) [
-      | inl low ↦ low
-      | inr high ↦ absurd (ne (omega arith))
-    ]
+    by : (x : Job) (xs ys : List Job) (t : Bool) → (find (λ j. is_off (standing log j)) xs ≡ Some job → find (λ j. is_off (standing log j)) ys ≡ Some job)
+        → (if t then Some x else find (λ j. is_off (standing log j)) xs) ≡ Some job
+        → (if t then Some x else find (λ j. is_off (standing log j)) ys) ≡ Some job
+    by x xs ys true behind e = e
+    by x xs ys false behind e = behind e
+
+    among : (js : List Job) (k : ℕ) → find (λ j. is_off (standing log j)) (take k js) ≡ Some job → find (λ j. is_off (standing log j)) js ≡ Some job
+    among [] zero e = cc
+    among [] (suc k) e = cc
+    among (x ∷ js) zero e = cc
+    among (x ∷ js) (suc k) e = by x (take k js) js (is_off (standing log x)) (among js k) e
+
+-- fewer jobs than were asked for are all
+pub all_jobs : (jobs all : List Job) (n : ℕ) → jobs ≡ take n all → length jobs < n → jobs ≡ all
+all_jobs jobs all n is less = is ∙ take-short all n (omega (arith, ap length is, less))
 
 -- ---- hands that are emptied
 

@@ -181,8 +181,8 @@ impl World {
         if self.board.closed() {
             return Ok(());
         }
-        let jobs = waiting(alloc, &self.lead)?;
-        match first_off(&self.board, &jobs) {
+        let waiting = first_waiting(alloc, &self.lead, &self.board)?;
+        match waiting {
             Some(job) => {
                 self.board.offer(alloc, &[job])?;
                 Ok(())
@@ -333,16 +333,24 @@ fn of_first(spec: Option<Spec>, first: Option<&Job>) -> Option<Spec>
     }
 }
 
-// All jobs that wait.
-fn waiting(alloc: Global, lead: &Lead) -> Result<Vec<Job>, AllocError>
-    ensures value { IfOk result (λ jobs. jobs.items ≡ lead.now.jobs) }
-    ensures facts { IsLead lead.now }
+// The first job that waits and is not on the board. It is looked for among the next jobs, each time twice
+// as many.
+fn first_waiting(alloc: Global, lead: &Lead, board: &Board<Spec>) -> Result<Option<Job>, AllocError>
+    ensures value { IfOk result (λ o. o ≡ find (λ j. is_off (standing board.now.log j)) lead.now.jobs) }
+    ensures facts { OnOk result (IsLead lead.now) }
 {
-    let jobs = lead.ahead(alloc, usize::MAX)?;
-    if jobs.len() == usize::MAX {
-        return Err(AllocError);
+    let mut count = 4usize;
+    for _round in 0..62 {
+        let jobs = lead.ahead(alloc, count)?;
+        if let Some(job) = first_off(board, &jobs) {
+            return Ok(Some(job));
+        }
+        if jobs.len() < count {
+            return Ok(None);
+        }
+        count = count.saturating_mul(2);
     }
-    Ok(jobs)
+    Err(AllocError)
 }
 
 // The first job that is not on the board.

@@ -49,6 +49,7 @@ fn lines_of(alloc: Global, text: &str) -> Result<Vec<u8>, AllocError> {
 const RUNS: &str = "\
 |0|0|0|x*d+1$|ring r = 7,(x,d),dp;$def W = nc_algebra(1,1); setring W;$d*x;$
 |0|0|0||// nothing is printed$;;$
+|0|0|0||
 |0|0|0|x$|ring r = 7,(x,d),dp; x; quit; y;$
 --pairs 9 --pairs 9|0|0|2|? Words, expected [--pairs N] [--make K]$|;
 --workers 4|1|0|2|? Words, expected [--pairs N] [--make K]$|;
@@ -59,6 +60,15 @@ const RUNS: &str = "\
 |0|0|1|? line 2 column 3: BadByte$|;$; %$
 |0|0|1|? line 1 column 3: Unexpected$|x y;$
 |0|0|1|? line 1 column 65: Deep$|(((((((((((((((((((((((((((((((((((((((((((((((((((((((((((((((((
+|0|0|0|3$|ring r = 7,x,dp;$000000000000000003;
+|0|0|1|? line 2 column 1: LongNumber$|ring r = 7,x,dp;$0000000000000000003;
+|0|0|0|x$|ring r = 7,x,dp;$((((((((((((((((((((((((((((((((((((((((((((((((((((((((((((((((x))))))))))))))))))))))))))))))))))))))))))))))))))))))))))))))));
+|0|0|1|? line 2: Limit$|ring r = 7,x,dp;$matrix D[17][1];
+|0|0|0||ring r = 7,x,dp;$ring s = 7,(a,b,c,d,e,f,g,h,i,j,k,l,m,n,o,p),dp;
+|0|0|1|? line 2: Limit$|ring r = 7,x,dp;$ring s = 7,(a,b,c,d,e,f,g,h,i,j,k,l,m,n,o,p,q),dp;
+|0|0|0||ring r = 7,x,dp;$ring s = 7,x,wp(65535);
+|0|0|1|? line 2: BadOrder$|ring r = 7,x,dp;$ring s = 7,x,wp(65536);
+|0|0|1|? line 2 column 1: BadByte$|ring r = 7,x,dp;$\0
 ";
 
 #[test]
@@ -80,6 +90,44 @@ fn answers_words_and_scripts(rt: HostRuntime) -> Result<(), Fail> {
     Ok(())
 }
 
+// Whose basis prints as the seven bytes of `_[1]=1` and a line feed.
+const WEYL: &[u8] = b"ring r = 7,(x,d),dp;\ndef W = nc_algebra(1,1); setring W;\nstd(x,d);\n";
+
+const WEYL_TEXT: &[u8] = b"_[1]=1\n";
+
+#[test]
+fn prints_nothing_where_a_read_fails(rt: HostRuntime) -> Result<(), Fail> {
+    let reads = WEYL.len() as u32 + 1;
+    for fails in 1..reads + 1 {
+        let (status, written) = run_over(rt.alloc(), &[], WEYL, 1, fails, 0)?;
+        assert_eq!(rt; status, 5, "read {fails}");
+        assert!(rt; written.is_empty(), "read {fails}");
+    }
+    Ok(())
+}
+
+#[test]
+fn prints_up_to_the_write_that_fails(rt: HostRuntime) -> Result<(), Fail> {
+    for taken in 0..WEYL_TEXT.len() {
+        let (status, written) = run_over(rt.alloc(), &[], WEYL, 1, 0, taken as u32 + 1)?;
+        assert_eq!(rt; status, 6, "{taken}");
+        assert_eq!(rt; written.as_slice(), &WEYL_TEXT[..taken]);
+    }
+    Ok(())
+}
+
+#[test]
+fn prints_as_much_as_the_sink_holds(rt: HostRuntime) -> Result<(), Fail> {
+    for room in 0..WEYL_TEXT.len() + 1 {
+        let mut source = MemSource::new(rt.alloc(), WEYL, 1, &[])?;
+        let mut sink = MemSink::new(rt.alloc(), room, 1, &[])?;
+        let status = run_one(rt.alloc(), &[], &mut source, &mut sink);
+        assert_eq!(rt; status, if room == WEYL_TEXT.len() { 0 } else { 6 });
+        assert_eq!(rt; sink.bytes(), &WEYL_TEXT[..room]);
+    }
+    Ok(())
+}
+
 #[test]
 fn refuses_long_scripts(rt: HostRuntime) -> Result<(), Fail> {
     let alloc = rt.alloc();
@@ -91,6 +139,28 @@ fn refuses_long_scripts(rt: HostRuntime) -> Result<(), Fail> {
     let (status, written) = run_over(alloc, &[], &one_more, 4096, 0, 0)?;
     assert_eq!(rt; status, 1);
     assert_eq!(rt; written.as_slice(), b"? TooLong\n".as_slice());
+    Ok(())
+}
+
+// A script that declares an ideal of so many zeros.
+fn zeros(alloc: Global, count: usize) -> Result<Vec<u8>, AllocError> {
+    let mut script = b"ring r = 7,x,dp;\nideal I = 0".to_vec(alloc)?;
+    for _more in 1..count {
+        script.extend_from_slice(b",0")?;
+    }
+    script.push(b';')?;
+    Ok(script)
+}
+
+#[test]
+fn takes_4096_generators(rt: HostRuntime) -> Result<(), Fail> {
+    let alloc = rt.alloc();
+    let (status, written) = run_over(alloc, &[], &zeros(alloc, 4096)?, 4096, 0, 0)?;
+    assert_eq!(rt; status, 0);
+    assert!(rt; written.is_empty());
+    let (status, written) = run_over(alloc, &[], &zeros(alloc, 4097)?, 4096, 0, 0)?;
+    assert_eq!(rt; status, 1);
+    assert_eq!(rt; written.as_slice(), b"? line 2: Limit\n".as_slice());
     Ok(())
 }
 

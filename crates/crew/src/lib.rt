@@ -8,7 +8,6 @@ pub use gates::{Gate, MeetGate, NoGate, Point};
 pub use sealed::Sealed;
 pub use shelf::{Shelf, ShelfView};
 
-mod compared;
 mod desk;
 mod engines;
 mod gates;

@@ -229,12 +229,18 @@ impl<'s, 'r, G: Gate> Desk<'s, 'r, G> {
         let mut steps: Steps<L> = Steps::start(blank);
         let mut prospects = Prospects::new(alloc);
         let mut lead = lead;
+        self.show(alloc, &lead, 0)?;
         loop {
             prospects.note(&lead)?;
-            self.offer(rt, alloc, &lead, &mut prospects)?;
-            view.grow(self.algebra);
-            self.help(rt, alloc, &mut seat, &view, &lead, &mut steps);
-            let spec = self.taken(rt, &lead);
+            let spec = self.made_ahead(
+                rt,
+                alloc,
+                &mut seat,
+                &mut view,
+                &lead,
+                &mut prospects,
+                &mut steps,
+            )?;
             self.gate.at(Point::BeforeCommit(spec.is_some()));
             let known = lead.basis().len();
             match lead.commit(alloc, &mut seat, spec, &mut steps)? {
@@ -244,8 +250,39 @@ impl<'s, 'r, G: Gate> Desk<'s, 'r, G> {
         }
     }
 
-    // Offers the lead's next jobs that aren't on the board, of the first four for each worker those that
-    // the chain rule won't skip, and wakes a worker
+    // What others made of the lead's first job, where that is good for the lead; before, next jobs are
+    // offered, and others' work is done. Where the chain rule will skip the job, there is nothing, and the
+    // board is left alone.
+    fn made_ahead<R: Wait, L: Ledger>(
+        &self,
+        rt: &R,
+        alloc: Global,
+        seat: &mut TableSeat<'s, 'r>,
+        view: &mut ShelfView<'s>,
+        lead: &Lead,
+        prospects: &mut Prospects,
+        steps: &mut Steps<L>,
+    ) -> Result<Option<Spec>, AllocError>
+        requires seat { seat.old.algebra ≡ self.now.algebra }
+        requires lead { lead.now.algebra ≡ self.now.algebra }
+        requires elements { Each (IsElement self.now.algebra) view.old }
+        ensures first { IfOk result (λ o. IfSome o (λ s. (rest : List Job) × (lead.now.jobs ≡ s.job ∷ rest))) }
+        ensures good { IfOk result (λ o. IfSome o (IsGood lead.now.algebra lead.now.generators lead.now.basis)) }
+        ensures algebra { seat.new.algebra ≡ seat.old.algebra }
+        ensures elements { Each (IsElement self.now.algebra) view.new }
+    {
+        if prospects.skips_first(lead)? {
+            return Ok(None);
+        }
+        if prospects.is_due() {
+            self.offer(rt, alloc, lead, prospects)?;
+        }
+        view.grow(self.algebra);
+        self.help(rt, alloc, seat, view, lead, steps);
+        Ok(self.taken(rt, lead))
+    }
+
+    // Offers those of the lead's next jobs that are worth it and aren't on the board, and wakes a worker
     // for each: to wake all for one job would have them meet at the lock.
     fn offer<R: Wait>(
         &self,
@@ -254,8 +291,11 @@ impl<'s, 'r, G: Gate> Desk<'s, 'r, G> {
         lead: &Lead,
         prospects: &mut Prospects,
     ) -> Result<(), AllocError> {
-        let next = lead.ahead(alloc, 4 * usize::from(self.workers))?;
+        let next = lead.ahead(alloc, jobs_ahead(self.workers))?;
         let worthy = prospects.worthy(alloc, &next)?;
+        if worthy.is_empty() {
+            return Ok(());
+        }
         let offered = locked::offer_new(alloc, &mut *self.board.lock(rt), &worthy)?;
         for _ in 0..offered {
             self.moved.notify_one();
@@ -307,16 +347,20 @@ impl<'s, 'r, G: Gate> Desk<'s, 'r, G> {
         if spec.job == *first { Some(spec) } else { None }
     }
 
-    // Puts the lead's last element on the shelf, where that is a further one than these.
+    // Puts the lead's elements on the shelf that come behind the first so many.
     fn show(&self, alloc: Global, lead: &Lead, known: usize) -> Result<(), AllocError> {
         let basis = lead.basis();
-        match basis.last() {
-            Some(element) if known < basis.len() => {
-                self.shelf.put(alloc, basis.len() as u32, element)
-            }
-            _ => Ok(()),
+        for k in known..basis.len() {
+            self.shelf.put(alloc, k as u32 + 1, &basis[k])?;
         }
+        Ok(())
     }
+}
+
+// How many of the next jobs a leader looks at. The chain rule skips most pairs, in enveloping algebras
+// more than nine in ten.
+fn jobs_ahead(workers: u8) -> usize {
+    (64 * usize::from(workers)).min(512)
 }
 
 // A claim; where no job stands offered, it waits until something more happened on the board.

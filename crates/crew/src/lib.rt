@@ -8,6 +8,7 @@ pub use gates::{Gate, MeetGate, NoGate, Point};
 pub use sealed::Sealed;
 pub use shelf::{Shelf, ShelfView};
 
+mod compared;
 mod desk;
 mod engines;
 mod gates;

@@ -8,30 +8,38 @@ use std::alloc::{AllocError, Global};
 /// The greatest number of a basis element.
 const MOST_ELEMENTS: u32 = 2048;
 
+/// The greatest number of a variable.
+const MOST_VARS: u32 = 16;
+
 /// The free bit of each lane of a word of exponents.
 const FREE_BITS: u64 = 0x8000_8000_8000_8000;
 
-/// What a leader knows of its pairs: which of them are treated, and which the chain rule will skip. A
-/// pair with a chain witness keeps it, so to reduce it ahead is in vain; in enveloping algebras this
-/// is most of the work.
+/// What a leader knows of its jobs: which of them are treated, and which pairs the chain rule will
+/// skip. A pair with a chain witness keeps it, so to reduce it ahead is in vain; in enveloping algebras
+/// this is most of the work.
 #[derive(Drop)]
 pub(crate) struct Prospects {
-    treated: PairSet,
-    skipped: PairSet,
+    treated: JobSet,
+    // Pairs that the chain rule will skip, and jobs that were found worthy: no job is judged twice.
+    skipped: JobSet,
+    chosen: JobSet,
     // The leading monomials of the elements so far, as words of exponents.
     leads: Vec<[u64; 4]>,
-    // How many entries are noted.
+    // How many entries are noted, and from how many on the next jobs are looked at again.
     noted: usize,
+    due: usize,
 }
 
 impl Prospects {
     /// Nothing is known. Takes no memory.
     pub(crate) fn new(alloc: Global) -> Prospects {
         Prospects {
-            treated: PairSet::new(alloc),
-            skipped: PairSet::new(alloc),
+            treated: JobSet::new(alloc),
+            skipped: JobSet::new(alloc),
+            chosen: JobSet::new(alloc),
             leads: Vec::new(alloc),
             noted: 0,
+            due: 0,
         }
     }
 
@@ -39,9 +47,8 @@ impl Prospects {
     pub(crate) fn note(&mut self, lead: &Lead) -> Result<(), AllocError> {
         let entries = lead.entries();
         for k in self.noted..entries.len() {
-            if let Job::Pair { i, j } = job_of(&entries[k]) {
-                self.treated.insert(i, j)?;
-            }
+            let job = job_of(&entries[k]);
+            self.treated.insert(&job)?;
         }
         self.noted = entries.len();
         let basis = lead.basis();
@@ -53,35 +60,66 @@ impl Prospects {
         Ok(())
     }
 
-    /// Of the lead's next jobs those that the chain rule will not skip, as far as is known, in their
-    /// order.
+    /// Whether the chain rule will skip the lead's first job, or there is none.
+    pub(crate) fn skips_first(&mut self, lead: &Lead) -> Result<bool, AllocError> {
+        match lead.first() {
+            Some(job) => self.is_in_vain(job),
+            None => Ok(true),
+        }
+    }
+
+    /// Whether enough was done since the next jobs were looked at: a quarter of them.
+    pub(crate) fn is_due(&self) -> bool {
+        self.due <= self.noted
+    }
+
+    /// Of the lead's next jobs, in their order, those that it did not find worthy before and that the
+    /// chain rule will not skip, as far as is known.
     pub(crate) fn worthy(&mut self, alloc: Global, next: &[Job]) -> Result<Vec<Job>, AllocError> {
         let mut worthy = Vec::new(alloc);
-        for k in 0..next.len() {
-            let job = next[k];
-            if !self.is_in_vain(&job, &next[..k])? {
-                worthy.push(job)?;
+        for job in next {
+            if self.is_worthy(job)? {
+                worthy.push(*job)?;
             }
+            // Each job before another is treated before it.
+            self.treated.insert(job)?;
         }
+        self.wait_for(next);
         Ok(worthy)
     }
 
-    // Whether the job is a pair with a chain witness, once the jobs before it are treated.
-    fn is_in_vain(&mut self, job: &Job, before: &[Job]) -> Result<bool, AllocError> {
+    // These jobs are not treated yet. Few of them are, where they are looked at again.
+    fn wait_for(&mut self, next: &[Job]) {
+        for job in next {
+            self.treated.remove(job);
+        }
+        self.due = self.noted.saturating_add((next.len() / 4).max(1));
+    }
+
+    fn is_worthy(&mut self, job: &Job) -> Result<bool, AllocError> {
+        if self.chosen.has(job) || self.is_in_vain(job)? {
+            return Ok(false);
+        }
+        self.chosen.insert(job)?;
+        Ok(true)
+    }
+
+    // Whether the job is a pair with a chain witness.
+    fn is_in_vain(&mut self, job: &Job) -> Result<bool, AllocError> {
         let Job::Pair { i, j } = *job else {
             return Ok(false);
         };
-        if self.skipped.has(i, j) {
+        if self.skipped.has(job) {
             return Ok(true);
         }
-        let in_vain = self.has_witness(i, j, before);
+        let in_vain = self.has_witness(i, j);
         if in_vain {
-            self.skipped.insert(i, j)?;
+            self.skipped.insert(job)?;
         }
         Ok(in_vain)
     }
 
-    fn has_witness(&self, i: u32, j: u32, before: &[Job]) -> bool {
+    fn has_witness(&self, i: u32, j: u32) -> bool {
         let (Some(first), Some(second)) = (self.lead(i), self.lead(j)) else {
             return false;
         };
@@ -90,7 +128,7 @@ impl Prospects {
                 return false;
             };
             let divides = k != i && k != j && divides_lcm(lead, first, second);
-            if divides && self.is_treated(i, k, before) && self.is_treated(j, k, before) {
+            if divides && self.is_treated(i, k) && self.is_treated(j, k) {
                 return true;
             }
         }
@@ -101,28 +139,29 @@ impl Prospects {
         self.leads.get((i as usize).wrapping_sub(1)).copied()
     }
 
-    // Whether the pair of these elements is treated, or among the jobs before.
-    fn is_treated(&self, i: u32, k: u32, before: &[Job]) -> bool {
+    // Whether the pair of these elements is treated.
+    fn is_treated(&self, i: u32, k: u32) -> bool {
         let (i, j) = if i < k { (i, k) } else { (k, i) };
-        self.treated.has(i, j) || before.contains(&Job::Pair { i, j })
+        self.treated.has(&Job::Pair { i, j })
     }
 }
 
-/// A set of pairs of basis elements: a bit for each.
+/// A set of pairs and products with a variable: a bit for each, those of later elements behind.
 #[derive(Drop)]
-struct PairSet {
+struct JobSet {
     words: Vec<u64>,
 }
 
-impl PairSet {
-    fn new(alloc: Global) -> PairSet {
-        PairSet {
+impl JobSet {
+    fn new(alloc: Global) -> JobSet {
+        JobSet {
             words: Vec::new(alloc),
         }
     }
 
-    fn insert(&mut self, i: u32, j: u32) -> Result<(), AllocError> {
-        let Some((word, bit)) = place_of(i, j) else {
+    // A seed has no bit.
+    fn insert(&mut self, job: &Job) -> Result<(), AllocError> {
+        let Some((word, bit)) = place_of(job) else {
             return Ok(());
         };
         for _ in self.words.len()..=word {
@@ -134,20 +173,38 @@ impl PairSet {
         Ok(())
     }
 
-    fn has(&self, i: u32, j: u32) -> bool {
-        match place_of(i, j) {
+    fn remove(&mut self, job: &Job) {
+        let Some((word, bit)) = place_of(job) else {
+            return;
+        };
+        if let Some(bits) = self.words.get_mut(word) {
+            *bits &= !bit;
+        }
+    }
+
+    fn has(&self, job: &Job) -> bool {
+        match place_of(job) {
             Some((word, bit)) => self.words.get(word).is_some_and(|bits| *bits & bit != 0),
             None => false,
         }
     }
 }
 
-// The word and the bit of a pair i < j; none where these are no numbers of elements.
-fn place_of(i: u32, j: u32) -> Option<(usize, u64)> {
-    if i < 1 || j <= i || j > MOST_ELEMENTS {
+// The word and the bit of a job; none where it is a seed, or its numbers are those of no elements.
+fn place_of(job: &Job) -> Option<(usize, u64)> {
+    let (element, rank) = match *job {
+        Job::Pair { i, j } if 1 <= i && i < j => (j, i.saturating_add(MOST_VARS)),
+        Job::Right { i, v } if u32::from(v) <= MOST_VARS => (i, u32::from(v)),
+        _ => return None,
+    };
+    if element > MOST_ELEMENTS {
         return None;
     }
-    let place = (j as usize).saturating_mul(j as usize) / 2 + i as usize;
+    // An element has as many places as there are variables and elements before it.
+    let element = element as usize;
+    let before = element.saturating_mul(element) / 2
+        + element.saturating_mul(MOST_VARS as usize + 1);
+    let place = before.saturating_add(rank as usize);
     Some((place / 64, 1u64.wrapping_shl((place % 64) as u32)))
 }
 

@@ -10,7 +10,9 @@ ghost use Rattle.gproduct.specs.Seats.{Keeps};
 ghost use Rattle.left_reduce.specs.Reductions.{start_count};
 ghost use Rattle.commit_core.specs.Specs.{IsGood, spec_over};
 ghost use Rattle.crew.specs.Sealing.{Agrees, SameStart};
+ghost use Rattle.crew.specs.Inside.Comparing.{AreSame};
 
+use crate::compared::Compared;
 use crate::shelf::{Seen, ShelfView};
 use algebra::Algebra;
 use commit_core::{Lead, spec_over};
@@ -128,15 +130,32 @@ impl<'s, 'r> Sealed<'s, 'r> {
         }
     }
 
-    // Whether the elements of all steps are the same.
+    // Whether the elements of all steps are the same. Each is compared once, though many steps use it.
     fn same_steps(&self, basis: &Vec<GPoly>) -> bool
         ensures { IsTrue result ↔ Each (λ step. element self.now.elements step.index ≡ element basis.now.items step.index) self.now.spec.trace }
     {
+        let mut compared = Compared::none();
         for step in self.spec.trace.steps() {
-            if !same(self.used.get(step.index), at(basis, step.index)) {
+            if !self.same_used(basis, step.index, &mut compared) {
                 return false;
             }
         }
+        true
+    }
+
+    // Whether the element of this number is the same.
+    fn same_used(&self, basis: &Vec<GPoly>, i: u32, compared: &mut Compared) -> bool
+        requires compared { AreSame self.now.elements basis.now.items compared.old }
+        ensures same { IsTrue result ↔ (element self.now.elements i ≡ element basis.now.items i) }
+        ensures compared { AreSame self.now.elements basis.now.items compared.new }
+    {
+        if compared.has(i) {
+            return true;
+        }
+        if !same(self.used.get(i), at(basis, i)) {
+            return false;
+        }
+        compared.note(i);
         true
     }
 

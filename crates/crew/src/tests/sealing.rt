@@ -7,7 +7,7 @@ ghost use Rattle.word_model.specs.Jobs.{IsJob};
 ghost use Rattle.word_model.specs.Machine.{IsElement};
 
 use super::algebras::{algebra, polys};
-use crate::{Sealed, Shelf, ShelfView};
+use crate::{Desk, NoGate, Sealed, Shelf, ShelfView};
 use algebra::Algebra;
 use commit_core::Lead;
 use gpoly::GPoly;
@@ -277,6 +277,23 @@ fn grows_up_to_the_first_that_is_no_element(rt: HostRuntime) -> Result<(), Fail>
     assert_eq!(rt; after, 2);
     assert_eq!(rt; count_seen(alloc, &alg, &alg, "1.0.2, 0.0.0, 1.1.1")?, 1);
     assert_eq!(rt; count_seen(alloc, &alg, &other, "1.0.2, 8.1.1, 1.1.1")?, 1);
+    Ok(())
+}
+
+// A leader without workers goes on with a lead of two elements, and its shelf has them and those that come.
+#[test]
+fn begun_leads_are_shown(rt: HostRuntime) -> Result<(), Fail> {
+    let alloc = rt.alloc();
+    let alg = algebra(alloc, "dp 7 1.0.0")?;
+    let gens = polys(alloc, &alg, "1.2.1, 1.0.3")?;
+    let lead = lead_of(alloc, &alg, "2: 1.2.1, 1.0.3")?;
+    assert_eq!(rt; lead.basis().len(), 2);
+    let table = Table::new(alloc, &alg)?;
+    let shelf = Shelf::new(alloc)?;
+    let desk = Desk::new(alloc, &alg, &table, &shelf, &gens, &NoGate, 1)?;
+    let journal = desk.lead(&rt, alloc, lead)?;
+    assert!(rt; journal.basis.len() > 2);
+    assert_eq!(rt; seen(alloc, &shelf, &alg)?.count(), journal.basis.len());
     Ok(())
 }
 

@@ -1,8 +1,4 @@
-use Rattle.std.proofs.Common.{Ok, sym, ap, ◌∙◌, subst, arith}
-use Rattle.monomials.specs.Polynomials.{Each}
-use Rattle.monomials.proofs.Keys.{Each-append}
-use Rattle.word_model.specs.Machine.{IsElement}
-use Rattle.crew.specs.Desks.{DeskValue}
+use Rattle.std.proofs.Common.{Ok, ap, ◌∙◌, subst, arith}
 use Rattle.commit_core.specs.Leads.{Run, IsCommit, run_journal}
 use Rattle.commit_core.specs.declared.lead.Committed.{Committed}
 use Rattle.commit_core.specs.declared.lead.Committed.TheVariants.{Added, Over as Ended}
@@ -22,13 +18,10 @@ loop-lead-preserved g c =
     let added : IsCommit old c.commit.new.self (Ok Added) =
     subst (λ (r : Committed). IsCommit old c.commit.new.self (Ok r)) c.in-Added.is c.in_ok-commit.ensures.step in
     let is = c.loop-lead.invariant in
-    let grown = c.grow.ensures.grown in
-    let more : Each (IsElement c.args.self.now.algebra) grown.0 =
-    subst (λ (d : DeskValue). Each (IsElement d.algebra) grown.0) c.self.view_is grown.2 in
     record {
-      seat = c.commit.ensures.seat_algebra ∙ c.help.ensures.algebra ∙ is.seat;
+      seat = c.commit.ensures.seat_algebra ∙ c.in_ok-spec.ensures.algebra ∙ is.seat;
       algebra = added.0.algebra ∙ is.algebra;
-      view = subst (Each (IsElement c.args.self.now.algebra)) (sym grown.1) (Each-append (IsElement c.args.self.now.algebra) c.loop-lead.view grown.0 is.view more);
+      view = c.in_ok-spec.ensures.elements;
       same = same-run c.args.lead old c.commit.new.self is.same added.0;
     }
 
